@@ -1,0 +1,48 @@
+-- Counts that stop at 1025. Assumes nothing.
+use mathlib.Core.Path.{_≡_, refl, sym, ap, subst, _∙_}
+use mathlib.Core.List.{List}
+use mathlib.Core.Logic.{_⊎_, inl, inr}
+use Prim.Native.Nat.{ℕ, zero, suc, min, _+_, _*_, _≤_, _<_}
+use native.Mathlib.Omega.{arith}
+use native.Mathlib.Nat.{zero-mul, suc-mul}
+use lib.ListN.{length, getD}
+use Rattle.std.proofs.shelf.Tests.{cases-lt}
+use Rattle.layout.specs.Numbers.{sixes, boxes}
+use Rattle.layout.specs.Nodes.{layout-of, Read}
+use Rattle.layout.specs.Rects.{piece, Sound, Counted}
+use Rattle.layout.specs.declared.Node.{Node}
+use Rattle.layout.specs.declared.Node.the-variants.{Nothing, One, Both, Changed, Row, Column}
+use Rattle.layout.specs.declared.Change.the-variants.{Move, Turn, Mirror}
+use Rattle.layout.proofs.Pieces.{piece-is}
+
+cap-mul : (k a : ℕ) → min (k * min a 1025) 1025 ≡ min (k * a) 1025
+cap-mul zero a = ap (λ m. min m 1025) (zero-mul (min a 1025) ∙ sym (zero-mul a))
+cap-mul (suc k) a =
+    elim (cases-lt a 1025) [
+      | inl h ↦ let e : min a 1025 ≡ a = omega arith in ap (λ m. min (suc k * m) 1025) e
+      | inr h ↦ omega (arith, suc-mul k (min a 1025), suc-mul k a)
+    ]
+
+module _ (xs : List ℕ) (sound : Sound xs) (counts : List ℕ) (n : ℕ) (here : n < sixes xs) (known : Counted xs counts n) where
+  count-as : (d : Node) → Read xs n d → boxes (λ k. 0) (piece xs n) ≡ boxes (λ k. 0) (layout-of (piece xs) d)
+  count-as d r = ap (boxes (λ k. 0)) (piece-is xs sound n here d r)
+
+  -- what is counted at each kind of node
+  abbrev pub Tally : Node → ℕ → Type 0
+  Tally Nothing m = m ≡ 0
+  Tally (One q) m = m ≡ 1
+  Tally (Both a b) m = m ≡ min (getD counts a 0 + getD counts b 0) 1025
+  Tally (Changed w a) m = m ≡ getD counts a 0
+  Tally (Row k f a) m = m ≡ min (k * getD counts a 0) 1025
+  Tally (Column k f a) m = m ≡ min (k * getD counts a 0) 1025
+
+  pub tally : (d : Node) → Read xs n d → (m : ℕ) → Tally d m → m ≡ min (boxes (λ k. 0) (piece xs n)) 1025
+  unfolding boxes
+  tally Nothing r m e = omega (arith, count-as _ r)
+  tally (One q) r m e = omega (arith, count-as _ r)
+  tally (Both a b) r m e = omega (arith, count-as _ r, known .1 a (r .modest .0), known .1 b (r .modest .1))
+  tally (Changed (Move p q) a) r m e = omega (arith, count-as _ r, known .1 a (r .modest .0))
+  tally (Changed (Turn s) a) r m e = omega (arith, count-as _ r, known .1 a (r .modest .0))
+  tally (Changed (Mirror s) a) r m e = omega (arith, count-as _ r, known .1 a (r .modest .0))
+  tally (Row k f a) r m e = e ∙ ap (λ u. min (k * u) 1025) (known .1 a (r .modest .0)) ∙ cap-mul k (boxes (λ k. 0) (piece xs a)) ∙ ap (λ u. min u 1025) (sym (count-as _ r))
+  tally (Column k f a) r m e = e ∙ ap (λ u. min (k * u) 1025) (known .1 a (r .modest .0)) ∙ cap-mul k (boxes (λ k. 0) (piece xs a)) ∙ ap (λ u. min u 1025) (sym (count-as _ r))
