@@ -11,8 +11,9 @@ use Rattle.std.specs.Orderings.{Decides}
 use Rattle.std.proofs.shelf.Tests.{cases-lt, le-leb, leb-true, and-parts, and-from, or-cases, or-left, or-right}
 use Rattle.scanline.specs.declared.Op.the-variants.{Or}
 use Rattle.scanline.specs.Lines.{Near}
-use Rattle.region.specs.declared.bands.Band.{Band}
-use Rattle.region.specs.Bands.{covers, Combined}
+use Rattle.scanline.specs.declared.band.Band.{Band}
+use Rattle.scanline.specs.Bands.{covers}
+use Rattle.region.specs.Regions.{Combined}
 use Rattle.region.specs.Shifts.{Shifted, WidenedDown}
 
 pub double-none : (a r : List Band) → Shifted 0 a r → WidenedDown 0 a r

@@ -10,9 +10,9 @@ use lib.ListN.{length, getD, take, drop}
 use Rattle.std.proofs.shelf.Lists.{take-more, take-all, drop-more}
 use Rattle.std.proofs.shelf.Tests.{cases-lt, le-leb, lt-leb, false≢true}
 use Rattle.scanline.specs.Lines.{Widened}
-use Rattle.region.specs.declared.bands.Band.{Band}
-use Rattle.region.specs.Bands.{edges, lineAt, lastLine, Canonical, Added}
-use Rattle.region.proofs.Turns.{From, Canon, canonical-from, canon-canonical, canon-more, canon-push, line-late, line-push}
+use Rattle.scanline.specs.declared.band.Band.{Band}
+use Rattle.scanline.specs.Bands.{edges, lineAt, lastLine, Canonical, Added}
+use Rattle.scanline.proofs.Rows.{From, Canon, canonical-from, canon-canonical, canon-more, canon-push, line-late, line-push}
 
 -- the lines of the first i bands are changed: P says how a new line follows from the old one
 pub record Lifting (P : List ℕ → List ℕ → Type 0) (a out : List Band) (i : ℕ) : Type 0 where

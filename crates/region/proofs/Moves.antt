@@ -11,10 +11,10 @@ use Rattle.std.proofs.shelf.Lists.{take-more, take-all, drop-more, getD-read}
 use Rattle.std.proofs.shelf.Tests.{cases-lt, le-leb, lt-leb, leb-true, and-parts, and-from}
 use Rattle.std.specs.shelf.Text.{sameBytes}
 use Rattle.scanline.specs.Lines.{inside}
-use Rattle.region.specs.declared.bands.Band.{Band}
-use Rattle.region.specs.Bands.{edges, lineAt, covers, canonical, Canonical}
+use Rattle.scanline.specs.declared.band.Band.{Band}
+use Rattle.scanline.specs.Bands.{edges, lineAt, covers, canonical, Canonical}
 use Rattle.region.specs.Shifts.{Shifted}
-use Rattle.region.proofs.Turns.{From, canonical-from, line-before}
+use Rattle.scanline.proofs.Rows.{From, canonical-from, line-before}
 
 -- each band of r is that of a, n rows later
 abbrev pub Moved : ℕ → List Band → List Band → Type 0

@@ -13,9 +13,10 @@ use Rattle.std.proofs.shelf.Equals.{sameBytes-decides}
 use Rattle.std.proofs.shelf.Tests.{cases-lt, cases-order, le-leb, and-parts, not-true, both-ways, leb-true, eq-eqb, eqb-true, false≢true}
 use Rattle.scanline.specs.Lines.{inside, Sorted}
 use Rattle.scanline.proofs.Unique.{one-line}
-use Rattle.region.specs.declared.bands.Band.{Band}
-use Rattle.region.specs.Bands.{edges, lineAt, covers, canonical, Canonical, Alike}
-use Rattle.region.proofs.Turns.{From, canonical-from, line-before}
+use Rattle.scanline.specs.declared.band.Band.{Band}
+use Rattle.scanline.specs.Bands.{edges, lineAt, covers, canonical, Canonical}
+use Rattle.region.specs.Regions.{Alike}
+use Rattle.scanline.proofs.Rows.{From, canonical-from, line-before}
 
 -- what canonical says, taken apart
 canon-parts : (line : List ℕ) (p : ℕ) (b : Band) (bs : List Band) → canonical line p (b ∷ bs) ≡ true → (p ≤ b .from) × (line ≡ edges b → ⊥) × (canonical (edges b) (suc (b .from)) bs ≡ true)

@@ -6,8 +6,8 @@ use Prim.Native.Nat.{ℕ, _-_, _^_, _<_}
 use lib.Dec.{leb}
 use Rattle.std.specs.Orderings.{Decides}
 use Rattle.scanline.specs.Lines.{Near}
-use Rattle.region.specs.declared.bands.Band.{Band}
-use Rattle.region.specs.Bands.{covers}
+use Rattle.scanline.specs.declared.band.Band.{Band}
+use Rattle.scanline.specs.Bands.{covers}
 
 -- a row of r, among those that a u64 can name, is the row of a that lies n above it
 pub record Shifted (n : ℕ) (a r : List Band) : Type 0 where

@@ -1,11 +1,14 @@
+// Two lists of bands merged into one, row by row.
 ghost use mathlib.Core.Path.{_≡_};
 ghost use mathlib.Core.List.{[]};
 ghost use Rattle.std.specs.Of.Vec.{vec-items};
 ghost use Rattle.std.specs.Vec.{made};
 ghost use Rattle.scanline.specs.Edges.{edges-of};
-ghost use Rattle.region.specs.Bands.{firstRow, lineAfter, bandsAfter, lastLine, Added, Canonical, Combined};
-use super::bands::Band;
+ghost use Rattle.scanline.specs.Bands.{Canonical};
+ghost use Rattle.region.specs.Regions.{firstRow, lineAfter, bandsAfter, Combined};
 use scanline::Op;
+use scanline::band::Band;
+use scanline::bands::add_band;
 use scanline::lines::Line;
 use std::alloc::AllocError;
 use std::alloc::Global;
@@ -37,27 +40,6 @@ fn pass<'a>(line: &'a Line, bands: &'a [Band], row: u64) -> (&'a Line, &'a [Band
         }
         [] => (line, bands),
     }
-}
-
-// The edges of the last band.
-fn last_line(bands: &[Band]) -> &[u64]
-    ensures { λ r. ⌜ now r ≡ lastLine [] (now (bands .entry)) ⌝ }
-{
-    match bands {
-        [.., band] => band.line.edges(),
-        [] => &[],
-    }
-}
-
-// One more band, unless it has the line of the last one.
-pub fn add_band(bands: &mut Vec<Band>, from: u64, line: Line) -> Result<(), AllocError>
-    ensures { λ r. ⌜ made r (λ _. Added from (edges-of line) (vec-items (now (bands .entry))) (vec-items (now (bands .exit)))) ⌝ }
-{
-    if last_line(bands.as_slice()) == line.edges() {
-        return Ok(());
-    }
-    bands.push(Band { from, line })?;
-    Ok(())
 }
 
 // The bands of the result. `none` is the line of the rows before the first band.

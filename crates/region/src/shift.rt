@@ -2,11 +2,11 @@
 ghost use mathlib.Core.Path.{_≡_};
 ghost use Rattle.std.specs.Of.Vec.{vec-items};
 ghost use Rattle.std.specs.Vec.{made};
-ghost use Rattle.region.specs.Bands.{Canonical};
+ghost use Rattle.scanline.specs.Bands.{Canonical};
 ghost use Rattle.region.specs.Shifts.{Shifted, WidenedDown};
-use super::bands::Band;
 use super::regions::Region;
 use scanline::Op;
+use scanline::band::Band;
 use std::alloc::AllocError;
 use std::alloc::Global;
 

@@ -84,5 +84,7 @@ pub fn combine_lines(heap: Global, op: Op, a: &[u64], b: &[u64]) -> Result<Vec<u
     Ok(out)
 }
 
+pub mod band;
+pub mod bands;
 pub mod lines;
 pub mod spread;

@@ -1,4 +1,5 @@
-use scanline::lines::Line;
+// A band of rows that hold one line.
+use super::lines::Line;
 
 // The rows from `from` on, up to the next band, hold `line`.
 #[derive(Drop)]
