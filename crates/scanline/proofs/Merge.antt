@@ -59,7 +59,7 @@ pub inside-before : (p : ℕ) (es : List ℕ) (x : ℕ) → From p es → x < p 
 inside-before p [] x h l = refl
 inside-before p (e ∷ es) x h l = rw (lt-leb e x (omega arith), inside-before (suc e) es x (h .1) (omega arith))
 
-inside-push : (es : List ℕ) (e x : ℕ) → inside (es ++ e ∷ []) x ≡ differ (inside es x) (leb e x)
+pub inside-push : (es : List ℕ) (e x : ℕ) → inside (es ++ e ∷ []) x ≡ differ (inside es x) (leb e x)
 inside-push [] e x = rw (differ-false (leb e x), false-differ (leb e x))
 inside-push (f ∷ fs) e x = rw (inside-push fs e x) (sym (differ-assoc (leb f x) (inside fs x) (leb e x)))
 
@@ -68,15 +68,15 @@ abbrev pub Between : ℕ → ℕ → List ℕ → Type 0
 Between p q [] = p ≤ q
 Between p q (e ∷ es) = (p ≤ e) × Between (suc e) q es
 
-between-from : (p q : ℕ) (es : List ℕ) → Between p q es → From p es
+pub between-from : (p q : ℕ) (es : List ℕ) → Between p q es → From p es
 between-from p q [] h = tt
 between-from p q (e ∷ es) h = (h .0, between-from (suc e) q es (h .1))
 
-between-push : (p q : ℕ) (es : List ℕ) (e : ℕ) → Between p q es → q ≤ e → Between p (suc e) (es ++ e ∷ [])
+pub between-push : (p q : ℕ) (es : List ℕ) (e : ℕ) → Between p q es → q ≤ e → Between p (suc e) (es ++ e ∷ [])
 between-push p q [] e h l = (omega arith, omega arith)
 between-push p q (f ∷ fs) e h l = (h .0, between-push (suc f) q fs e (h .1) l)
 
-between-more : (p q r : ℕ) (es : List ℕ) → Between p q es → q ≤ r → Between p r es
+pub between-more : (p q r : ℕ) (es : List ℕ) → Between p q es → q ≤ r → Between p r es
 between-more p q r [] h l = omega arith
 between-more p q r (f ∷ fs) h l = (h .0, between-more (suc f) q r fs (h .1) l)
 

@@ -87,4 +87,9 @@ pub fn combine_lines(heap: Global, op: Op, a: &[u64], b: &[u64]) -> Result<Vec<u
 pub mod band;
 pub mod bands;
 pub mod lines;
+pub mod live;
+pub mod span;
+pub mod spans;
 pub mod spread;
+pub mod sweep;
+pub mod union;

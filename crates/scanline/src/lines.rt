@@ -6,9 +6,12 @@ ghost use mathlib.Core.List.{List, [], _∷_};
 ghost use Rattle.std.specs.Of.Vec.{vec-items};
 ghost use Rattle.std.specs.Vec.{made};
 ghost use Rattle.scanline.specs.Lines.{inside, Sorted, Combined, toggled, Widened};
+ghost use Rattle.scanline.specs.Spans.{ByColumns, any-across};
 use super::Op;
 use super::combine_lines;
+use super::span::Span;
 use super::spread::widen_edges;
+use super::union::union_edges;
 use std::alloc::AllocError;
 use std::alloc::Global;
 
@@ -32,6 +35,15 @@ impl Line {
         ensures { λ r. ⌜ made r (λ v. vec-items (v .edges) ≡ from ∷ to ∷ []) ⌝ }
     {
         let edges = vec![in heap; from, to]?;
+        Ok(Line { edges })
+    }
+
+    // All columns of spans in the order of their columns.
+    pub fn of_spans(heap: Global, spans: &[Span]) -> Result<Line, AllocError>
+        requires { ⌜ ByColumns 0 (now spans) ⌝ }
+        ensures { λ r. ⌜ made r (λ v. (x : ℕ) → inside (vec-items (v .edges)) x ≡ any-across (now (spans .entry)) x) ⌝ }
+    {
+        let edges = union_edges(heap, spans)?;
         Ok(Line { edges })
     }
 
