@@ -8,11 +8,13 @@ use native.Mathlib.Omega.{arith}
 use lib.Dec.{ltb, leb, eqb}
 use lib.ListN.{length, getD}
 use Rattle.std.proofs.shelf.Tests.{and-parts, and-from, and-left, and-right, cases-bool, both-ways, leb-true, eqb-true, le-leb, lt-leb, eq-eqb}
+use Rattle.layout.specs.Limits.{max-boxes, max-nodes, max-number}
 use Rattle.layout.specs.Layout.{pick, nothing, drawn}
 use Rattle.layout.specs.Numbers.{node-at, sixes, all-at-most, earlier, boxes, few-boxes, layout-refusal, layout-in}
 use Rattle.layout.specs.Nodes.{orderly}
-use Rattle.layout.specs.Rects.{covered, rects, piece, Sound}
-use Rattle.layout.proofs.Draws.{rects-draw}
+use Rattle.layout.specs.Pieces.{piece, Sound}
+use Rattle.layout.specs.Rects.{covered, rects}
+use Rattle.layout.proofs.Rects.{rects-draw}
 use Rattle.layout.proofs.Nodes.{at-most}
 use Rattle.layout.proofs.Pieces.{earlier-at, settle}
 
@@ -42,43 +44,43 @@ sixes-near (a ∷ (b ∷ (c ∷ (d ∷ [])))) = (omega arith, omega arith)
 sixes-near (a ∷ (b ∷ (c ∷ (d ∷ (e ∷ []))))) = (omega arith, omega arith)
 sixes-near (a ∷ (b ∷ (c ∷ (d ∷ (e ∷ (f ∷ xs)))))) = let h = sixes-near xs in (omega arith, omega arith)
 
-pub refused-1 : (xs : List ℕ) → (length xs ≡ 6 * sixes xs → 0 < sixes xs → sixes xs ≤ 256 → ⊥) → layout-refusal xs ≡ 1
+pub refused-1 : (xs : List ℕ) → (length xs ≡ 6 * sixes xs → 0 < sixes xs → sixes xs ≤ max-nodes → ⊥) → layout-refusal xs ≡ 1
 unfolding layout-refusal
-refused-1 xs h = elim (cases-bool (eqb (length xs) (6 * sixes xs) && (leb 1 (sixes xs) && leb (sixes xs) 256))) [
+refused-1 xs h = elim (cases-bool (eqb (length xs) (6 * sixes xs) && (leb 1 (sixes xs) && leb (sixes xs) max-nodes))) [
   | inl e ↦ let p = and-parts _ _ e in let q = and-parts _ _ (p .1) in absurd (h (eqb-true _ _ (p .0)) (leb-true _ _ (q .0)) (leb-true _ _ (q .1)))
   | inr e ↦ rw e
 ]
 
-module _ (xs : List ℕ) (whole : length xs ≡ 6 * sixes xs) (some : 0 < sixes xs) (few : sixes xs ≤ 256) where
-  pub past-1 : layout-refusal xs ≡ pick (all-at-most 65535 xs && earlier xs (sixes xs)) (pick (few-boxes xs) 0 3) 2
+module _ (xs : List ℕ) (whole : length xs ≡ 6 * sixes xs) (some : 0 < sixes xs) (few : sixes xs ≤ max-nodes) where
+  pub past-1 : layout-refusal xs ≡ pick (all-at-most max-number xs && earlier xs (sixes xs)) (pick (few-boxes xs) 0 3) 2
   unfolding layout-refusal
   past-1 =
-      let e : (eqb (length xs) (6 * sixes xs) && (leb 1 (sixes xs) && leb (sixes xs) 256)) ≡ true = and-from _ _ (eq-eqb _ _ whole) (and-from _ _ (le-leb _ _ some) (le-leb _ _ few)) in
+      let e : (eqb (length xs) (6 * sixes xs) && (leb 1 (sixes xs) && leb (sixes xs) max-nodes)) ≡ true = and-from _ _ (eq-eqb _ _ whole) (and-from _ _ (le-leb _ _ some) (le-leb _ _ few)) in
       rw e
 
-  pub refused-2 : (all-at-most 65535 xs && earlier xs (sixes xs)) ≡ false → layout-refusal xs ≡ 2
+  pub refused-2 : (all-at-most max-number xs && earlier xs (sixes xs)) ≡ false → layout-refusal xs ≡ 2
   refused-2 e = past-1 ∙ rw e
 
-  pub refused-2a : (p : ℕ) → 65535 < getD xs p 0 → layout-refusal xs ≡ 2
-  refused-2a p h = refused-2 (and-left _ _ (all-not 65535 xs p h))
+  pub refused-2a : (p : ℕ) → max-number < getD xs p 0 → layout-refusal xs ≡ 2
+  refused-2a p h = refused-2 (and-left _ _ (all-not max-number xs p h))
 
   pub refused-2b : (p : ℕ) → p < sixes xs → orderly xs p ≡ false → layout-refusal xs ≡ 2
   refused-2b p l h = refused-2 (and-right _ _ (earlier-not xs (sixes xs) p l h))
 
-  pub past-2 : all-at-most 65535 xs ≡ true → earlier xs (sixes xs) ≡ true → layout-refusal xs ≡ pick (few-boxes xs) 0 3
-  past-2 p q = let e : (all-at-most 65535 xs && earlier xs (sixes xs)) ≡ true = and-from _ _ p q in past-1 ∙ rw e
+  pub past-2 : all-at-most max-number xs ≡ true → earlier xs (sixes xs) ≡ true → layout-refusal xs ≡ pick (few-boxes xs) 0 3
+  past-2 p q = let e : (all-at-most max-number xs && earlier xs (sixes xs)) ≡ true = and-from _ _ p q in past-1 ∙ rw e
 
 module _ (xs : List ℕ) (sound : Sound xs) (p : ℕ) (last : p + 1 ≡ sixes xs) where
   pub last-piece : node-at xs (sixes xs) (sixes xs - 1) ≡ piece xs p
   last-piece = let e : sixes xs - 1 ≡ p = omega arith in ap (node-at xs (sixes xs)) e ∙ settle xs sound (sixes xs) p (omega arith) (omega arith)
 
-  pub refused-3 : 1024 < boxes (λ k. 0) (piece xs p) → layout-refusal xs ≡ 3
+  pub refused-3 : max-boxes < boxes (λ k. 0) (piece xs p) → layout-refusal xs ≡ 3
   unfolding few-boxes
   refused-3 h =
       let e : few-boxes xs ≡ false = lt-leb _ _ (omega (arith, ap (boxes (λ k. 0)) last-piece)) in
       past-2 xs (sound .whole) (sound .some) (sound .few) (sound .small) (sound .names) ∙ rw e
 
-  pub refused-0 : boxes (λ k. 0) (piece xs p) ≤ 1024 → layout-refusal xs ≡ 0
+  pub refused-0 : boxes (λ k. 0) (piece xs p) ≤ max-boxes → layout-refusal xs ≡ 0
   unfolding few-boxes
   refused-0 h =
       let e : few-boxes xs ≡ true = le-leb _ _ (omega (arith, ap (boxes (λ k. 0)) last-piece)) in
@@ -92,8 +94,8 @@ module _ (xs : List ℕ) (sound : Sound xs) (p : ℕ) (last : p + 1 ≡ sixes xs
 pub sound-of : (xs : List ℕ) → layout-refusal xs ≡ 0 → Sound xs × (few-boxes xs ≡ true)
 unfolding layout-refusal
 sound-of xs h =
-    let s = eqb (length xs) (6 * sixes xs) && (leb 1 (sixes xs) && leb (sixes xs) 256) in
-    let t = all-at-most 65535 xs && earlier xs (sixes xs) in
+    let s = eqb (length xs) (6 * sixes xs) && (leb 1 (sixes xs) && leb (sixes xs) max-nodes) in
+    let t = all-at-most max-number xs && earlier xs (sixes xs) in
     let e : s ≡ true = pick-first s _ _ h in
     let f : t ≡ true = pick-first t _ _ (rw e at h) in
     let p = and-parts _ _ e in let q = and-parts _ _ (p .1) in let r = and-parts _ _ f in
@@ -104,13 +106,13 @@ sound-of xs h =
     pick-first true x y h = refl
     pick-first false x y h = absurd (omega arith)
 
-pub few-of : (xs : List ℕ) (sound : Sound xs) (p : ℕ) → p + 1 ≡ sixes xs → few-boxes xs ≡ true → boxes (λ k. 0) (piece xs p) ≤ 1024
+pub few-of : (xs : List ℕ) (sound : Sound xs) (p : ℕ) → p + 1 ≡ sixes xs → few-boxes xs ≡ true → boxes (λ k. 0) (piece xs p) ≤ max-boxes
 unfolding few-boxes
 few-of xs sound p last e = omega (arith, leb-true _ _ e, ap (boxes (λ k. 0)) (last-piece xs sound p last))
 
 -- what the length says
-pub shaped : (xs : List ℕ) → (length xs ≡ 0 → ⊥) → length xs ≤ 1536 → length xs % 6 ≡ 0 → (length xs ≡ 6 * sixes xs) × (0 < sixes xs) × (sixes xs ≤ 256)
+pub shaped : (xs : List ℕ) → (length xs ≡ 0 → ⊥) → length xs ≤ 6 * max-nodes → length xs % 6 ≡ 0 → (length xs ≡ 6 * sixes xs) × (0 < sixes xs) × (sixes xs ≤ max-nodes)
 shaped xs a b c = let h = sixes-near xs in (omega arith, omega arith, omega arith)
 
-pub sound-from : (xs : List ℕ) → (length xs ≡ 0 → ⊥) → length xs ≤ 1536 → length xs % 6 ≡ 0 → all-at-most 65535 xs ≡ true → earlier xs (sixes xs) ≡ true → Sound xs
+pub sound-from : (xs : List ℕ) → (length xs ≡ 0 → ⊥) → length xs ≤ 6 * max-nodes → length xs % 6 ≡ 0 → all-at-most max-number xs ≡ true → earlier xs (sixes xs) ≡ true → Sound xs
 sound-from xs a b c d e = let s = shaped xs a b c in record { whole = s .0; some = s .1; few = s .2; small = d; names = e }

@@ -10,7 +10,7 @@ use Rattle.std.proofs.shelf.Lists.{take-all, take-append-drop, take-append-le, 
 use Rattle.std.proofs.shelf.Parts.{between-is}
 use Rattle.std.specs.shelf.Lists.{between}
 use Rattle.layout.specs.Rects.{move-rect, copies}
-use Rattle.layout.specs.declared.Rect.{Rect}
+use Rattle.layout.specs.declared.rect.Rect.{Rect}
 
 pub move-none : (qs : List Rect) → map (move-rect 0 0) qs ≡ qs
 move-none [] = refl

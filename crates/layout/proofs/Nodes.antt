@@ -9,12 +9,13 @@ use lib.Dec.{ltb, leb, eqb}
 use lib.ListN.{length, getD}
 use Rattle.std.proofs.shelf.Ways.{tells}
 use Rattle.std.proofs.shelf.Tests.{and-parts, and-from, and-left, and-right, leb-true, ltb-true, lt-ltb, le-ltb, lt-leb, cases-eq}
+use Rattle.layout.specs.Limits.{max-number}
 use Rattle.layout.specs.Layout.{Layout}
 use Rattle.layout.specs.Numbers.{node-of, all-at-most, earlier-1}
 use Rattle.layout.specs.Nodes.{numbered, orderly, Read}
-use Rattle.layout.specs.declared.Node.{Node}
-use Rattle.layout.specs.declared.Node.the-variants.{Nothing, One, Both, Changed, Row, Column}
-use Rattle.layout.specs.declared.Change.the-variants.{Move, Turn, Mirror}
+use Rattle.layout.specs.declared.node.Node.{Node}
+use Rattle.layout.specs.declared.node.Node.the-variants.{Nothing, One, Both, Changed, Row, Column}
+use Rattle.layout.specs.declared.change.Change.the-variants.{Move, Turn, Mirror}
 
 pub at-most : (m : ℕ) (xs : List ℕ) → all-at-most m xs ≡ true → (i : ℕ) → getD xs i 0 ≤ m
 unfolding all-at-most
@@ -22,7 +23,7 @@ at-most m [] h i = omega arith
 at-most m (x ∷ xs) h zero = leb-true x m (and-parts _ _ h .0)
 at-most m (x ∷ xs) h (suc i) = at-most m xs (and-parts _ _ h .1) i
 
-module _ (xs : List ℕ) (n : ℕ) (small : all-at-most 65535 xs ≡ true) where
+module _ (xs : List ℕ) (n : ℕ) (small : all-at-most max-number xs ≡ true) where
   pub read-0 : getD xs (6 * n) 0 ≡ 0 → Read xs n Nothing
   unfolding orderly earlier-1 numbered node-of
   read-0 e = record { orders = rw e; same = λ f. rw e; modest = tt }
@@ -32,7 +33,7 @@ module _ (xs : List ℕ) (n : ℕ) (small : all-at-most 65535 xs ≡ true) where
   read-1 e = record {
     orders = rw e;
     same = λ f. rw e;
-    modest = (omega (arith, at-most 65535 xs small (6 * n + 2), at-most 65535 xs small (6 * n + 4)), omega (arith, at-most 65535 xs small (6 * n + 3), at-most 65535 xs small (6 * n + 5)));
+    modest = (omega (arith, at-most max-number xs small (6 * n + 2), at-most max-number xs small (6 * n + 4)), omega (arith, at-most max-number xs small (6 * n + 3), at-most max-number xs small (6 * n + 5)));
   }
 
   pub read-2 : getD xs (6 * n) 0 ≡ 2 → getD xs (6 * n + 1) 0 < n → getD xs (6 * n + 2) 0 < n → Read xs n (Both (getD xs (6 * n + 1) 0) (getD xs (6 * n + 2) 0))
@@ -41,23 +42,23 @@ module _ (xs : List ℕ) (n : ℕ) (small : all-at-most 65535 xs ≡ true) where
 
   pub read-3 : getD xs (6 * n) 0 ≡ 3 → getD xs (6 * n + 3) 0 < n → Read xs n (Changed (Move (getD xs (6 * n + 1) 0) (getD xs (6 * n + 2) 0)) (getD xs (6 * n + 3) 0))
   unfolding orderly earlier-1 numbered node-of
-  read-3 e p = record { orders = rw e (lt-ltb _ _ p); same = λ f. rw e; modest = (p, (at-most 65535 xs small (6 * n + 1), at-most 65535 xs small (6 * n + 2))) }
+  read-3 e p = record { orders = rw e (lt-ltb _ _ p); same = λ f. rw e; modest = (p, (at-most max-number xs small (6 * n + 1), at-most max-number xs small (6 * n + 2))) }
 
   pub read-4 : getD xs (6 * n) 0 ≡ 4 → getD xs (6 * n + 2) 0 < n → Read xs n (Changed (Turn (getD xs (6 * n + 1) 0)) (getD xs (6 * n + 2) 0))
   unfolding orderly earlier-1 numbered node-of
-  read-4 e p = record { orders = rw e (lt-ltb _ _ p); same = λ f. rw e; modest = (p, at-most 65535 xs small (6 * n + 1)) }
+  read-4 e p = record { orders = rw e (lt-ltb _ _ p); same = λ f. rw e; modest = (p, at-most max-number xs small (6 * n + 1)) }
 
   pub read-5 : getD xs (6 * n) 0 ≡ 5 → getD xs (6 * n + 2) 0 < n → Read xs n (Changed (Mirror (getD xs (6 * n + 1) 0)) (getD xs (6 * n + 2) 0))
   unfolding orderly earlier-1 numbered node-of
-  read-5 e p = record { orders = rw e (lt-ltb _ _ p); same = λ f. rw e; modest = (p, at-most 65535 xs small (6 * n + 1)) }
+  read-5 e p = record { orders = rw e (lt-ltb _ _ p); same = λ f. rw e; modest = (p, at-most max-number xs small (6 * n + 1)) }
 
   pub read-6 : getD xs (6 * n) 0 ≡ 6 → getD xs (6 * n + 3) 0 < n → Read xs n (Row (getD xs (6 * n + 1) 0) (getD xs (6 * n + 2) 0) (getD xs (6 * n + 3) 0))
   unfolding orderly earlier-1 numbered node-of
-  read-6 e p = record { orders = rw e (lt-ltb _ _ p); same = λ f. rw e; modest = (p, at-most 65535 xs small (6 * n + 1), at-most 65535 xs small (6 * n + 2)) }
+  read-6 e p = record { orders = rw e (lt-ltb _ _ p); same = λ f. rw e; modest = (p, at-most max-number xs small (6 * n + 1), at-most max-number xs small (6 * n + 2)) }
 
   pub read-7 : getD xs (6 * n) 0 ≡ 7 → getD xs (6 * n + 3) 0 < n → Read xs n (Column (getD xs (6 * n + 1) 0) (getD xs (6 * n + 2) 0) (getD xs (6 * n + 3) 0))
   unfolding orderly earlier-1 numbered node-of
-  read-7 e p = record { orders = rw e (lt-ltb _ _ p); same = λ f. rw e; modest = (p, at-most 65535 xs small (6 * n + 1), at-most 65535 xs small (6 * n + 2)) }
+  read-7 e p = record { orders = rw e (lt-ltb _ _ p); same = λ f. rw e; modest = (p, at-most max-number xs small (6 * n + 1), at-most max-number xs small (6 * n + 2)) }
 
 -- a node that names no earlier one
 module _ (xs : List ℕ) (n : ℕ) where
@@ -124,7 +125,7 @@ module _ (n k a b c : ℕ) where
   kind-7 h = leb-true k 7 (and-parts _ _ h .0)
 
 -- each checked node is one of the eight
-pub read-any : (xs : List ℕ) (n : ℕ) → all-at-most 65535 xs ≡ true → orderly xs n ≡ true → (d : Node) × Read xs n d
+pub read-any : (xs : List ℕ) (n : ℕ) → all-at-most max-number xs ≡ true → orderly xs n ≡ true → (d : Node) × Read xs n d
 unfolding orderly
 read-any xs n small o =
     let k = getD xs (6 * n) 0 in

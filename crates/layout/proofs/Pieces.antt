@@ -11,17 +11,19 @@ use Rattle.std.proofs.shelf.Tests.{and-parts, cases-lt, cases-eq}
 use Rattle.std.proofs.shelf.Elements.{all-append, all-weaker}
 use Rattle.std.proofs.shelf.Bits.{mul-le}
 use Rattle.std.specs.shelf.Lists.{All}
+use Rattle.layout.specs.Limits.{max-number}
 use Rattle.layout.specs.Layout.{Layout, nothing, box, both, moved, turned, mirrored, row, column, cell}
 use Rattle.layout.specs.Numbers.{node-of, node-at, sixes, all-at-most, earlier-1, earlier}
 use Rattle.layout.specs.Nodes.{layout-of, Modest, numbered, orderly, Read}
-use Rattle.layout.specs.Rects.{move-rect, turn-rect, mirror-rect, copies, rects, piece, Within, Sound}
-use Rattle.layout.specs.declared.Rect.{Rect}
-use Rattle.layout.specs.declared.Node.{Node}
-use Rattle.layout.specs.declared.Node.the-variants.{Nothing, One, Both, Changed, Row, Column}
+use Rattle.layout.specs.Pieces.{piece, Sound}
+use Rattle.layout.specs.Rects.{move-rect, turn-rect, mirror-rect, copies, rects, Within}
+use Rattle.layout.specs.declared.rect.Rect.{Rect}
+use Rattle.layout.specs.declared.node.Node.{Node}
+use Rattle.layout.specs.declared.node.Node.the-variants.{Nothing, One, Both, Changed, Row, Column}
 use Rattle.layout.specs.Changes.{changed}
-use Rattle.layout.specs.declared.Change.the-variants.{Move, Turn, Mirror}
+use Rattle.layout.specs.declared.change.Change.the-variants.{Move, Turn, Mirror}
 use Rattle.layout.proofs.Nodes.{read-any}
-use Rattle.layout.proofs.Model.{move-within, turn-within, mirror-within, copies-within}
+use Rattle.layout.proofs.Sizes.{move-within, turn-within, mirror-within, copies-within}
 
 pub earlier-at : (xs : List ℕ) (m n : ℕ) → n < m → earlier xs m ≡ true → orderly xs n ≡ true
 unfolding earlier orderly
@@ -74,11 +76,11 @@ within-of f n (Changed (Move r b) a) h w = move-within ((a + 1) * 4294967296) _ 
 within-of f n (Changed (Turn s) a) h w = turn-within ((a + 1) * 4294967296) _ s (omega arith) (omega arith) (rects (f a)) (w a (h .0))
 within-of f n (Changed (Mirror s) a) h w = mirror-within ((a + 1) * 4294967296) _ s (omega arith) (omega arith) (rects (f a)) (w a (h .0))
 within-of f n (Row k d a) h w =
-    let p = mul-le k d 65535 65535 (h .1) (h .2) in
+    let p = mul-le k d max-number max-number (h .1) (h .2) in
     let z = mul-zero k in
     copies-within ((a + 1) * 4294967296) _ k d 0 (omega arith) (omega arith) (rects (f a)) (w a (h .0))
 within-of f n (Column k d a) h w =
-    let p = mul-le k d 65535 65535 (h .1) (h .2) in
+    let p = mul-le k d max-number max-number (h .1) (h .2) in
     let z = mul-zero k in
     copies-within ((a + 1) * 4294967296) _ k 0 d (omega arith) (omega arith) (rects (f a)) (w a (h .0))
 

@@ -1,10 +1,11 @@
 -- The ways to change a box. Assumes nothing: these are definitions.
 use Prim.Native.Nat.{_^_, _≤_}
+use Rattle.layout.specs.Limits.{max-number}
 use Rattle.layout.specs.Layout.{Layout, moved, turned, mirrored}
 use Rattle.layout.specs.Rects.{move-rect, turn-rect, mirror-rect}
-use Rattle.layout.specs.declared.Rect.{Rect}
-use Rattle.layout.specs.declared.Change.{Change}
-use Rattle.layout.specs.declared.Change.the-variants.{Move, Turn, Mirror}
+use Rattle.layout.specs.declared.rect.Rect.{Rect}
+use Rattle.layout.specs.declared.change.Change.{Change}
+use Rattle.layout.specs.declared.change.Change.the-variants.{Move, Turn, Mirror}
 
 abbrev pub change-rect : Change → Rect → Rect
 change-rect (Move r b) q = move-rect r b q
@@ -24,6 +25,6 @@ changed (Mirror s) a = mirrored s a
 
 -- by numbers of a layout
 abbrev pub Little : Change → Type 0
-Little (Move r b) = (r ≤ 65535) × (b ≤ 65535)
-Little (Turn s) = s ≤ 65535
-Little (Mirror s) = s ≤ 65535
+Little (Move r b) = (r ≤ max-number) × (b ≤ max-number)
+Little (Turn s) = s ≤ max-number
+Little (Mirror s) = s ≤ max-number

@@ -6,11 +6,12 @@ use Prim.Native.Nat.{ℕ, _+_, _≤_, _<_}
 use lib.ListN.{length, getD}
 use Rattle.std.specs.declared.result.Result.{Result}
 use Rattle.std.specs.declared.result.Result.the-variants.{Ok, Err}
+use Rattle.layout.specs.Limits.{max-boxes, max-number}
 use Rattle.layout.specs.Numbers.{sixes, all-at-most, boxes, layout-refusal}
 use Rattle.layout.specs.Nodes.{orderly}
-use Rattle.layout.specs.Rects.{piece}
-use Rattle.layout.specs.declared.Refusal.{Refusal}
-use Rattle.layout.specs.declared.Refusal.the-variants.{Shape, Number, Name, Boxes}
+use Rattle.layout.specs.Pieces.{piece}
+use Rattle.layout.specs.declared.refusal.Refusal.{Refusal}
+use Rattle.layout.specs.declared.refusal.Refusal.the-variants.{Nodes, Number, Node, Boxes, Regions, Region, Technology, Spots, Room, Circuit, Text}
 
 -- the first number above a limit
 abbrev pub First-above : ℕ → List ℕ → ℕ → Type 0
@@ -20,13 +21,21 @@ First-above m xs p = (p < length xs) × (m < getD xs p 0) × ((k : ℕ) → k < 
 abbrev pub First-late : List ℕ → ℕ → Type 0
 First-late xs p = (p < sixes xs) × (orderly xs p ≡ false) × ((k : ℕ) → k < p → orderly xs k ≡ true)
 
--- the number of each refusal, and its place
+-- which refusal a layout meets, and where: the numbers are looked at before the nodes; the refusals of other entries never come
 abbrev pub Turned-away : List ℕ → Refusal → Type 0
-Turned-away xs (Shape p) = (layout-refusal xs ≡ 1) × (p ≡ length xs)
-Turned-away xs (Number p) = (layout-refusal xs ≡ 2) × First-above 65535 xs p
-Turned-away xs (Name p) = (layout-refusal xs ≡ 2) × (all-at-most 65535 xs ≡ true) × First-late xs p
+Turned-away xs (Nodes p) = (layout-refusal xs ≡ 1) × (p ≡ length xs)
+Turned-away xs (Number p) = (layout-refusal xs ≡ 2) × First-above max-number xs p
+Turned-away xs (Node p) = (layout-refusal xs ≡ 2) × (all-at-most max-number xs ≡ true) × First-late xs p
 Turned-away xs (Boxes p) = (layout-refusal xs ≡ 3) × (p + 1 ≡ sixes xs)
+Turned-away xs (Regions p) = ⊥
+Turned-away xs (Region p) = ⊥
+Turned-away xs (Technology p) = ⊥
+Turned-away xs (Spots p) = ⊥
+Turned-away xs (Room p) = ⊥
+Turned-away xs (Circuit p) = ⊥
+Turned-away xs (Text p) = ⊥
 
-abbrev pub Checked-so : List ℕ → Result ℕ Refusal → Type 0
-Checked-so xs (Ok n) = (layout-refusal xs ≡ 0) × (n ≤ 1024) × ((p : ℕ) → p + 1 ≡ sixes xs → n ≡ boxes (λ k. 0) (piece xs p))
-Checked-so xs (Err e) = Turned-away xs e
+-- how many boxes there are, where the layout is taken
+abbrev pub Checked : List ℕ → Result ℕ Refusal → Type 0
+Checked xs (Ok n) = (layout-refusal xs ≡ 0) × (n ≤ max-boxes) × ((p : ℕ) → p + 1 ≡ sixes xs → n ≡ boxes (λ k. 0) (piece xs p))
+Checked xs (Err e) = Turned-away xs e

@@ -6,13 +6,14 @@ use Prim.Native.Nat.{ℕ, _+_, _*_, _≤_, _<_}
 use lib.ListN.{getD}
 use Rattle.std.specs.declared.option.Option.{Option}
 use Rattle.std.specs.declared.option.Option.the-variants.{Some, None}
+use Rattle.layout.specs.Limits.{max-number}
 use Rattle.layout.specs.Layout.{Layout, nothing, box, both, row, column}
 use Rattle.layout.specs.Numbers.{node-of, earlier-1}
 use Rattle.layout.specs.Rects.{Within}
-use Rattle.layout.specs.declared.Node.{Node}
-use Rattle.layout.specs.declared.Node.the-variants.{Nothing, One, Both, Changed, Row, Column}
+use Rattle.layout.specs.declared.node.Node.{Node}
+use Rattle.layout.specs.declared.node.Node.the-variants.{Nothing, One, Both, Changed, Row, Column}
 use Rattle.layout.specs.Changes.{changed, Little}
-use Rattle.layout.specs.declared.Change.{Change}
+use Rattle.layout.specs.declared.change.Change.{Change}
 
 -- the layout that a node is, with what the named ones are
 abbrev pub layout-of : (ℕ → Layout) → Node → Layout
@@ -26,11 +27,11 @@ layout-of f (Column n d a) = column n d (f a)
 -- it names nodes below n, and its numbers are small
 abbrev pub Modest : ℕ → Node → Type 0
 Modest n Nothing = Unit {0}
-Modest n (One q) = Within 131070 q
+Modest n (One q) = Within (2 * max-number) q
 Modest n (Both a b) = (a < n) × (b < n)
 Modest n (Changed w a) = (a < n) × Little w
-Modest n (Row k d a) = (a < n) × (k ≤ 65535) × (d ≤ 65535)
-Modest n (Column k d a) = (a < n) × (k ≤ 65535) × (d ≤ 65535)
+Modest n (Row k d a) = (a < n) × (k ≤ max-number) × (d ≤ max-number)
+Modest n (Column k d a) = (a < n) × (k ≤ max-number) × (d ≤ max-number)
 
 unfoldable pub numbered : (ℕ → Layout) → List ℕ → ℕ → Layout
 numbered f xs n = node-of f (getD xs (6 * n) 0) (getD xs (6 * n + 1) 0) (getD xs (6 * n + 2) 0) (getD xs (6 * n + 3) 0) (getD xs (6 * n + 4) 0) (getD xs (6 * n + 5) 0)

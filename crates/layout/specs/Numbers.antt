@@ -5,6 +5,7 @@ use mathlib.Core.List.{List, [], _∷_}
 use Prim.Native.Nat.{ℕ, zero, suc, _+_, _*_, _-_, _≤_, _<_}
 use lib.Dec.{ltb, leb, eqb}
 use lib.ListN.{length, getD}
+use Rattle.layout.specs.Limits.{max-boxes, max-nodes, max-number}
 use Rattle.layout.specs.Layout.{pick, Layout, nothing, box, both, moved, turned, mirrored, row, column, cell, Drawing, drawn}
 
 -- a layout is nodes of six numbers that name earlier nodes only, the last being the layout: 0 nothing, 1 box layer x y across down, 2 both a b, 3 moved right below a, 4 turned side a, 5 mirrored side a, 6 row many far a, 7 column many far a
@@ -52,8 +53,8 @@ boxes c (column n f a) = n * boxes c a
 boxes c (cell k) = c k
 
 unfoldable pub few-boxes : List ℕ → Bool
-few-boxes xs = leb (boxes (λ k. 0) (node-at xs (sixes xs) (sixes xs - 1))) 1024
+few-boxes xs = leb (boxes (λ k. 0) (node-at xs (sixes xs) (sixes xs - 1))) max-boxes
 
 unfoldable pub layout-refusal : List ℕ → ℕ
 layout-refusal xs =
-    pick (eqb (length xs) (6 * sixes xs) && (leb 1 (sixes xs) && leb (sixes xs) 256)) (pick (all-at-most 65535 xs && earlier xs (sixes xs)) (pick (few-boxes xs) 0 3) 2) 1
+    pick (eqb (length xs) (6 * sixes xs) && (leb 1 (sixes xs) && leb (sixes xs) max-nodes)) (pick (all-at-most max-number xs && earlier xs (sixes xs)) (pick (few-boxes xs) 0 3) 2) 1

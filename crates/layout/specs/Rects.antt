@@ -1,13 +1,10 @@
 -- Boxes written out, and what they cover. Assumes nothing: these are definitions.
-use mathlib.Core.Path.{_≡_}
-use mathlib.Core.Bool.{Bool, true, false, _&&_, _||_}
+use mathlib.Core.Bool.{Bool, false, _&&_, _||_}
 use mathlib.Core.List.{List, [], _∷_, _++_, map}
-use Prim.Native.Nat.{ℕ, zero, suc, min, _+_, _*_, _-_, _≤_, _<_}
+use Prim.Native.Nat.{ℕ, zero, suc, min, _+_, _*_, _-_, _≤_}
 use lib.Dec.{ltb, leb, eqb}
-use lib.ListN.{length, getD}
-use Rattle.layout.specs.Numbers.{node-at, sixes, all-at-most, earlier, boxes}
 use Rattle.layout.specs.Layout.{Layout, nothing, box, both, moved, turned, mirrored, row, column, cell, Drawing}
-use Rattle.layout.specs.declared.Rect.{Rect}
+use Rattle.layout.specs.declared.rect.Rect.{Rect}
 
 -- whether a square of a layer is in a box
 unfoldable pub in-rect : Rect → Drawing
@@ -44,22 +41,6 @@ rects (row n f a) = copies n f 0 (rects a)
 rects (column n f a) = copies n 0 f (rects a)
 rects (cell k) = []
 
--- the layout of a node
-unfoldable pub piece : List ℕ → ℕ → Layout
-piece xs n = node-at xs (suc n) n
-
 -- how far a box reaches
 abbrev pub Within : ℕ → Rect → Type 0
 Within m q = (q .x + q .across ≤ m) × (q .y + q .down ≤ m)
-
--- what is known of a node's numbers once they are checked
-pub record Sound (xs : List ℕ) : Type 0 where
-  pub whole : length xs ≡ 6 * sixes xs
-  pub some : 0 < sixes xs
-  pub few : sixes xs ≤ 256
-  pub small : all-at-most 65535 xs ≡ true
-  pub names : earlier xs (sixes xs) ≡ true
-
--- how many boxes each node has, or 1025 where it has more
-abbrev pub Counted : List ℕ → List ℕ → ℕ → Type 0
-Counted xs counts m = (m ≤ length counts) × ((k : ℕ) → k < m → getD counts k 0 ≡ min (boxes (λ k. 0) (piece xs k)) 1025)

@@ -7,14 +7,17 @@ use Rattle.std.specs.declared.vec.Vec.{Vec}
 use Rattle.std.specs.declared.alloc.Global.{Global}
 use Rattle.std.specs.declared.result.Result.{Result}
 use Rattle.std.specs.declared.result.Result.the-variants.{Ok, Err}
+use Rattle.std.specs.shelf.Lists.{All}
+use Rattle.layout.specs.Limits.{max-boxes}
 use Rattle.layout.specs.Numbers.{layout-refusal, layout-in}
 use Rattle.layout.specs.Checks.{Turned-away}
-use Rattle.layout.specs.Rects.{covered}
-use Rattle.layout.specs.declared.Rect.{Rect}
-use Rattle.layout.specs.declared.Fault.{Fault}
-use Rattle.layout.specs.declared.Fault.the-variants.{Turned, Memory}
+use Rattle.layout.specs.Rects.{covered, Within}
+use Rattle.layout.specs.declared.rect.Rect.{Rect}
+use Rattle.layout.specs.declared.refusal.Fault.{Fault}
+use Rattle.layout.specs.declared.refusal.Fault.the-variants.{Refused, Memory}
 
+-- few boxes, none of them far out, that cover what the layout draws
 abbrev pub Written : List ℕ → Result (Vec Rect Global) Fault → Type 0
-Written xs (Ok v) = (layout-refusal xs ≡ 0) × (vec-len v ≤ 1024) × ((l x y : ℕ) → covered (vec-items v) l x y ≡ layout-in xs l x y)
-Written xs (Err (Turned e)) = Turned-away xs e
+Written xs (Ok v) = (layout-refusal xs ≡ 0) × (vec-len v ≤ max-boxes) × All (Within (2 ^ 40)) (vec-items v) × ((l x y : ℕ) → covered (vec-items v) l x y ≡ layout-in xs l x y)
+Written xs (Err (Refused e)) = Turned-away xs e
 Written xs (Err Memory) = layout-refusal xs ≡ 0

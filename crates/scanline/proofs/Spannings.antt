@@ -14,7 +14,7 @@ use Rattle.std.specs.Slices.{Shuffled}
 use Rattle.std.proofs.shelf.Sorted.{all-shuffled, has-shuffled, shuffled-sym, shuffled-keeps}
 use Rattle.std.proofs.shelf.Tests.{cases-lt, cases-eq, cases-bool, le-leb, lt-leb, lt-ltb, le-ltb, eq-eqb, eqb-true, ltb-true, and-parts, or-parts, or-from, false≢true}
 use Rattle.std.proofs.shelf.Ways.{tells}
-use Rattle.layout.specs.declared.Rect.{Rect}
+use Rattle.layout.specs.declared.rect.Rect.{Rect}
 use Rattle.layout.specs.Rects.{in-rect, covered}
 use Rattle.scanline.specs.declared.span.Span.{Span}
 use Rattle.scanline.specs.Spans.{across, any-across, any-still, any-covers, no-span, Solid, Spanned, Leads, ByFirst, ByColumns, ByRows}

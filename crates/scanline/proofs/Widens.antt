@@ -1,6 +1,6 @@
 -- A line widened to the right, by a model of the walk. Assumes nothing.
 use mathlib.Core.Path.{_≡_, refl, sym, ap, subst, _∙_}
-use mathlib.Core.Logic.{⊎-elim}
+use mathlib.Core.Logic.{_⊎_, inl, inr, ⊎-elim}
 use mathlib.Core.Bool.{Bool, true, false, not, cond}
 use mathlib.Core.List.{List, [], _∷_, _++_, append-nil, append-assoc}
 use Prim.Native.Nat.{ℕ, suc, _+_, _-_, _^_, _≤_, _<_}
@@ -9,7 +9,7 @@ use lib.Dec.{leb}
 use lib.ListN.{length, getD, drop}
 use Rattle.std.specs.Orderings.{Decides}
 use Rattle.std.proofs.shelf.Tests.{cases-lt, le-leb, lt-leb, true≢false, false≢true, cases-bool}
-use Rattle.scanline.specs.Lines.{differ, inside, rises, Sorted, Near, Widened, reached}
+use Rattle.scanline.specs.Lines.{differ, inside, rises, Sorted, Near, Room, Widened, reached}
 use Rattle.scanline.proofs.Merge.{From, rises-from, from-rises, from-less, inside-before, differ-false, false-differ, differ-assoc}
 use Rattle.scanline.proofs.Walks.{true-differ, not-not}
 
@@ -22,6 +22,11 @@ walkIn n (e ∷ a ∷ es) = cond (leb a (e + n)) (walkIn n es) ((e + n) ∷ a �
 abbrev pub walkOut : ℕ → List ℕ → List ℕ
 walkOut n [] = []
 walkOut n (a ∷ es) = a ∷ walkIn n es
+
+-- no edge lies past m
+abbrev pub Below : ℕ → List ℕ → Type 0
+Below m [] = Unit {0}
+Below m (e ∷ es) = (e ≤ m) × Below m es
 
 -- order
 
@@ -56,7 +61,7 @@ from-append : (p : ℕ) (a b : List ℕ) → From p (a ++ b) → From p a
 from-append p [] b h = tt
 from-append p (e ∷ es) b h = (h .0, from-append (suc e) es b (h .1))
 
-inside-append : (a b : List ℕ) (x : ℕ) → inside (a ++ b) x ≡ differ (inside a x) (inside b x)
+pub inside-append : (a b : List ℕ) (x : ℕ) → inside (a ++ b) x ≡ differ (inside a x) (inside b x)
 inside-append [] b x = sym (false-differ (inside b x))
 inside-append (e ∷ es) b x = rw (inside-append es b x) (sym (differ-assoc (leb e x) (inside es x) (inside b x)))
 
@@ -160,44 +165,60 @@ widened-by : (n : ℕ) (es : List ℕ) → From 0 es → (x : ℕ) → Decides (
 widened-by n [] h x = (λ t. absurd (false≢true t), λ w. w .3)
 widened-by n (a ∷ es) h x = out-near n a es (h .1) (in-near n es (from-less (suc a) 1 es (h .1) (omega arith))) x
 
+-- where nothing changes from m on there is no edge past m
+pub still-below : (m p : ℕ) (es : List ℕ) → From p es → ((x : ℕ) → m ≤ x → inside es x ≡ inside es m) → Below m es
+still-below m p [] h s = tt
+still-below m p (e ∷ es) h s =
+    elim (cases-lt m e) [
+      | inl l ↦ absurd (false≢true (sym (near e es m (h .1) l) ∙ sym (s e (omega arith)) ∙ far e es e (omega arith) ∙ ap not (inside-before (suc e) es e (h .1) (omega arith))))
+      | inr l ↦ (l, still-below m (suc e) es (h .1) (λ x k. not-not (inside es x) ∙ ap not (sym (far e es x (omega arith)) ∙ s x k ∙ far e es m l) ∙ sym (not-not (inside es m))))
+    ]
+
 -- the walk so far: what is left completes `out`
 pub record Widening (n : ℕ) (es out rest : List ℕ) (within : Bool) : Type 0 where
   pub whole : out ++ cond within (walkIn n rest) (walkOut n rest) ≡ walkOut n es
   pub low : ℕ
   pub from : From low rest
+  pub part : (m : ℕ) → Below m es → Below m rest
 
 pub opening : (n : ℕ) (es : List ℕ) → Sorted es → Widening n es [] es false
-opening n es h = record { whole = refl; low = 0; from = rises-from 0 es h }
+opening n es h = record { whole = refl; low = 0; from = rises-from 0 es h; part = λ m b. b }
 
 module _ (n : ℕ) (es out : List ℕ) where
   pub opened : (rest : List ℕ) → 0 < length rest → Widening n es out rest false → Widening n es (out ++ getD rest 0 0 ∷ []) (drop 1 rest) true
   opened [] l h = absurd (omega arith)
-  opened (f ∷ fs) l h = record { whole = append-assoc out (f ∷ []) (walkIn n fs) ∙ h .whole; low = suc f; from = h .from .1 }
+  opened (f ∷ fs) l h = record { whole = append-assoc out (f ∷ []) (walkIn n fs) ∙ h .whole; low = suc f; from = h .from .1; part = λ m b. h .part m b .1 }
 
   pub joined : (rest : List ℕ) → 0 < length rest → reached (getD rest 0 0 + n) (drop 1 rest) ≡ true → Widening n es out rest true → Widening n es out (drop 1 (drop 1 rest)) true
   joined [] l r h = absurd (omega arith)
   joined (f ∷ []) l r h = absurd (false≢true r)
-  joined (f ∷ a ∷ fs) l r h = record { whole = rw r at (h .whole); low = suc a; from = h .from .1 .1 }
+  joined (f ∷ a ∷ fs) l r h = record { whole = rw r at (h .whole); low = suc a; from = h .from .1 .1; part = λ m b. h .part m b .1 .1 }
 
   pub closed : (rest : List ℕ) → 0 < length rest → reached (getD rest 0 0 + n) (drop 1 rest) ≡ false → Widening n es out rest true → Widening n es (out ++ (getD rest 0 0 + n) ∷ []) (drop 1 rest) false
   closed [] l r h = absurd (omega arith)
-  closed (f ∷ []) l r h = record { whole = append-assoc out ((f + n) ∷ []) [] ∙ h .whole; low = suc f; from = tt }
-  closed (f ∷ a ∷ fs) l r h = record { whole = append-assoc out ((f + n) ∷ []) (a ∷ walkIn n fs) ∙ (rw r at (h .whole)); low = suc f; from = h .from .1 }
+  closed (f ∷ []) l r h = record { whole = append-assoc out ((f + n) ∷ []) [] ∙ h .whole; low = suc f; from = tt; part = λ m b. tt }
+  closed (f ∷ a ∷ fs) l r h = record { whole = append-assoc out ((f + n) ∷ []) (a ∷ walkIn n fs) ∙ (rw r at (h .whole)); low = suc f; from = h .from .1; part = λ m b. h .part m b .1 }
 
-  -- what is left has no edge that a u64 can name
-  pub ended : (left : List ℕ) → out ++ left ≡ walkOut n es → From (2 ^ 64) left → Sorted es → Sorted out × Widened n es out
-  ended left e f h = (
-    from-rises 0 out (from-append 0 out left (rw e (out-from n 0 es (rises-from 0 es h)))),
-    record { holds = λ x l. subst (λ b. Decides b (Near n (inside es) x)) (sym (same x l)) (widened-by n es (rises-from 0 es h) x) },
-  )
-    where
-      same : (x : ℕ) → x < 2 ^ 64 → inside out x ≡ inside (walkOut n es) x
-      same x l = sym (ap (λ v. inside v x) (sym e) ∙ inside-append out left x ∙ rw (inside-before (2 ^ 64) left x f l) (differ-false (inside out x)))
+  order : (left : List ℕ) → out ++ left ≡ walkOut n es → Sorted es → Sorted out
+  order left e h = from-rises 0 out (from-append 0 out left (rw e (out-from n 0 es (rises-from 0 es h))))
+
+  at : (left : List ℕ) → out ++ left ≡ walkOut n es → Sorted es → (x : ℕ) → inside left x ≡ false → Decides (inside out x) (Near n (inside es) x)
+  at left e h x l = subst (λ b. Decides b (Near n (inside es) x)) (ap (λ v. inside v x) (sym e) ∙ inside-append out left x ∙ rw l (differ-false (inside out x))) (widened-by n es (rises-from 0 es h) x)
 
   pub ended-all : (within : Bool) → Sorted es → Widening n es out [] within → Sorted out × Widened n es out
-  ended-all true s h = ended [] (h .whole) tt s
-  ended-all false s h = ended [] (h .whole) tt s
+  ended-all true s h = (order [] (h .whole) s, record { holds = λ x l. at [] (h .whole) s x refl })
+  ended-all false s h = (order [] (h .whole) s, record { holds = λ x l. at [] (h .whole) s x refl })
 
+  -- what is left has no edge that a u64 can name
   pub ended-far : (rest : List ℕ) → 0 < length rest → (getD rest 0 0 + n < 2 ^ 64 → ⊥) → Sorted es → Widening n es out rest true → Sorted out × Widened n es out
   ended-far [] l o s h = absurd (omega arith)
-  ended-far (f ∷ fs) l o s h = ended (walkIn n (f ∷ fs)) (h .whole) (from-less (f + n) (2 ^ 64) _ (in-late n f fs (h .from .1)) (⊎-elim (λ k. absurd (o k)) (λ k. k) (cases-lt (f + n) (2 ^ 64)))) s
+  ended-far (f ∷ fs) l o s h =
+      let far : From (2 ^ 64) (walkIn n (f ∷ fs)) = from-less (f + n) (2 ^ 64) _ (in-late n f fs (h .from .1)) (⊎-elim (λ k. absurd (o k)) (λ k. k) (cases-lt (f + n) (2 ^ 64))) in (
+        order (walkIn n (f ∷ fs)) (h .whole) s,
+        record {
+          holds = λ x r. elim r [
+            | inl k ↦ at (walkIn n (f ∷ fs)) (h .whole) s x (inside-before (2 ^ 64) (walkIn n (f ∷ fs)) x far k)
+            | inr k ↦ absurd (o (omega (arith, k .fits, h .part (k .end) (still-below (k .end) 0 es (rises-from 0 es s) (k .still)) .0)))
+          ];
+        },
+      )

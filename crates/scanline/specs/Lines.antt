@@ -1,8 +1,9 @@
 -- Lines as lists of edges, and what they hold. Assumes nothing.
 use mathlib.Core.Path.{_≡_}
 use mathlib.Core.Bool.{Bool, true, false, not, Bool·beq, _&&_, _||_, cond}
-use mathlib.Core.List.{List, [], _∷_}
-use Prim.Native.Nat.{ℕ, suc, _+_, _^_, _≤_, _<_, min}
+use mathlib.Core.List.{List, [], _∷_, _++_}
+use mathlib.Core.Logic.{_⊎_}
+use Prim.Native.Nat.{ℕ, suc, _+_, _-_, _^_, _≤_, _<_, min}
 use lib.Dec.{leb, eqb}
 use Rattle.std.specs.Orderings.{Decides}
 use Rattle.std.specs.declared.option.Option.{Option}
@@ -63,11 +64,34 @@ toggled (e ∷ es) = cond (eqb e 0) es (0 ∷ e ∷ es)
 abbrev pub Near : ℕ → (ℕ → Bool) → ℕ → Type 0
 Near n A x = (y : ℕ) × (y ≤ x) × (x ≤ y + n) × (A y ≡ true)
 
--- among the places that a u64 can name
+-- nothing changes from some place on, and n more can still be named by a u64
+pub record Room (n : ℕ) (A : ℕ → Bool) : Type 0 where
+  pub end : ℕ
+  pub fits : end + n < 2 ^ 64
+  pub still : (x : ℕ) → end ≤ x → A x ≡ A end
+
+-- at each place that a u64 can name, and with room at all places
 pub record Widened (n : ℕ) (a r : List ℕ) : Type 0 where
-  pub holds : (x : ℕ) → x < 2 ^ 64 → Decides (inside r x) (Near n (inside a) x)
+  pub holds : (x : ℕ) → (x < 2 ^ 64) ⊎ Room n (inside a) → Decides (inside r x) (Near n (inside a) x)
+
+pub record MovedRight (n : ℕ) (a r : List ℕ) : Type 0 where
+  pub holds : (x : ℕ) → (x < 2 ^ 64) ⊎ Room n (inside a) → inside r x ≡ (leb n x && inside a (x - n))
+
+-- what moves past the first place is gone
+pub record MovedLeft (n : ℕ) (a r : List ℕ) : Type 0 where
+  pub holds : (x : ℕ) → inside r x ≡ inside a (x + n)
 
 -- whether the first edge is at e or before
 abbrev pub reached : ℕ → List ℕ → Bool
 reached e [] = false
 reached e (f ∷ fs) = leb f e
+
+-- whether e is the last edge
+abbrev pub ends-in : ℕ → List ℕ → Bool
+ends-in e [] = false
+ends-in e (f ∷ []) = eqb f e
+ends-in e (f ∷ g ∷ gs) = ends-in e (g ∷ gs)
+
+-- `after` is `before` with an edge more at the end, or one fewer where it stands there
+abbrev pub Toggled : ℕ → List ℕ → List ℕ → Type 0
+Toggled e before after = ((ends-in e before ≡ true) × (before ≡ after ++ e ∷ [])) ⊎ ((ends-in e before ≡ false) × (after ≡ before ++ e ∷ []))

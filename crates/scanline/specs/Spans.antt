@@ -9,7 +9,7 @@ use lib.Dec.{leb, ltb}
 use lib.ListN.{length, getD}
 use Rattle.std.specs.declared.option.Option.{Option}
 use Rattle.std.specs.declared.option.Option.the-variants.{Some, None}
-use Rattle.layout.specs.declared.Rect.{Rect}
+use Rattle.layout.specs.declared.rect.Rect.{Rect}
 use Rattle.layout.specs.Rects.{in-rect}
 use Rattle.scanline.specs.Lines.{inside, Sorted}
 use Rattle.scanline.specs.declared.span.Span.{Span}

@@ -88,6 +88,7 @@ pub mod band;
 pub mod bands;
 pub mod lines;
 pub mod live;
+pub mod shift;
 pub mod span;
 pub mod spans;
 pub mod spread;

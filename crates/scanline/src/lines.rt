@@ -5,10 +5,12 @@ ghost use Prim.Native.Nat.{ℕ, _<_};
 ghost use mathlib.Core.List.{List, [], _∷_};
 ghost use Rattle.std.specs.Of.Vec.{vec-items};
 ghost use Rattle.std.specs.Vec.{made};
-ghost use Rattle.scanline.specs.Lines.{inside, Sorted, Combined, toggled, Widened};
+ghost use Rattle.scanline.specs.Lines.{inside, Sorted, Combined, toggled, Widened, MovedRight, MovedLeft};
 ghost use Rattle.scanline.specs.Spans.{ByColumns, any-across};
 use super::Op;
 use super::combine_lines;
+use super::shift::shift_edges_left;
+use super::shift::shift_edges_right;
 use super::span::Span;
 use super::spread::widen_edges;
 use super::union::union_edges;
@@ -85,6 +87,22 @@ impl Line {
         ensures { λ r. ⌜ made r (λ v. Widened by (vec-items (now (self .entry) .edges)) (vec-items (v .edges))) ⌝ }
     {
         let edges = widen_edges(heap, self.edges.as_slice(), by)?;
+        Ok(Line { edges })
+    }
+
+    // Each column `by` to the right.
+    pub fn shift_right(&self, heap: Global, by: u64) -> Result<Line, AllocError>
+        ensures { λ r. ⌜ made r (λ v. MovedRight by (vec-items (now (self .entry) .edges)) (vec-items (v .edges))) ⌝ }
+    {
+        let edges = shift_edges_right(heap, self.edges.as_slice(), by)?;
+        Ok(Line { edges })
+    }
+
+    // Each column `by` to the left, without those that would lie past the first.
+    pub fn shift_left(&self, heap: Global, by: u64) -> Result<Line, AllocError>
+        ensures { λ r. ⌜ made r (λ v. MovedLeft by (vec-items (now (self .entry) .edges)) (vec-items (v .edges))) ⌝ }
+    {
+        let edges = shift_edges_left(heap, self.edges.as_slice(), by)?;
         Ok(Line { edges })
     }
 

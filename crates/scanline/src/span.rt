@@ -1,5 +1,5 @@
 // The rows and columns of a box, in the order of rows and then of columns.
-use layout::Rect;
+use layout::rect::Rect;
 
 // The columns from `left` up to `right`, in the rows from `top` up to `bottom`.
 #[derive(Clone, Copy, PartialEq, Eq, PartialOrd, Ord)]

@@ -12,7 +12,7 @@ use super::span::SpanEq;
 use super::span::SpanOrd;
 use super::span::SpanPartialEq;
 use super::span::SpanPartialOrd;
-use layout::Rect;
+use layout::rect::Rect;
 use std::alloc::AllocError;
 use std::alloc::Global;
 

@@ -15,7 +15,7 @@ use super::live::next_row;
 use super::span::Span;
 use super::spans::begin_at;
 use super::spans::by_rows;
-use layout::Rect;
+use layout::rect::Rect;
 use std::alloc::AllocError;
 use std::alloc::Global;
 

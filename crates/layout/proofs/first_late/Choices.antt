@@ -1,8 +1,0 @@
-use mathlib.Core.Path.{_≡_}
-use mathlib.Core.Bool.{true}
-use Prim.Native.Nat.{ℕ, _<_}
-use Rattle.layout.specs.Nodes.{orderly}
-use Rattle.layout.proofs.first_late.Given as given
-
-abbrev pub Inv-loop-n : given.InvT-loop-n
-Inv-loop-n l = (k : ℕ) → k < l .n → orderly (l .nodes) k ≡ true

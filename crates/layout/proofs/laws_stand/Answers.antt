@@ -1,5 +1,0 @@
-use Rattle.layout.proofs.Laws.{box-moved, quarters, mirror-twice}
-use Rattle.layout.proofs.laws_stand.Needs as need
-
-pub returns : need.returns
-returns c = record { box-moved = box-moved; quarters = quarters; mirror-twice = mirror-twice }

@@ -1,0 +1,4 @@
+use Rattle.layout.proofs.write_out.+put.Given as given
+
+abbrev pub μ-put : given.MeasureT-put
+μ-put l = l .n
