@@ -1,7 +1,7 @@
 -- A change of each band's line. Assumes nothing.
 use mathlib.Core.Path.{_≡_, refl, sym, ap, subst, _∙_}
 use mathlib.Core.Logic.{⊎-elim}
-use mathlib.Core.Bool.{cond}
+use mathlib.Core.Bool.{Bool, true, false, _&&_, cond}
 use mathlib.Core.List.{List, [], _∷_, _++_}
 use Prim.Native.Nat.{ℕ, suc, _+_, _≤_, _<_}
 use native.Mathlib.Omega.{arith}
@@ -9,7 +9,7 @@ use lib.Dec.{leb}
 use lib.ListN.{length, getD, take, drop}
 use Rattle.std.proofs.shelf.Lists.{take-more, take-all, drop-more}
 use Rattle.std.proofs.shelf.Tests.{cases-lt, le-leb, lt-leb, false≢true}
-use Rattle.scanline.specs.Lines.{Widened}
+use Rattle.scanline.specs.Lines.{Widened, MovedRight, MovedLeft}
 use Rattle.scanline.specs.declared.band.Band.{Band}
 use Rattle.scanline.specs.Bands.{edges, lineAt, lastLine, Canonical, Added}
 use Rattle.scanline.proofs.Rows.{From, Canon, canonical-from, canon-canonical, canon-more, canon-push, line-late, line-push}
@@ -57,3 +57,13 @@ lift-more P a out out′ i b line l is p d h =
 
 pub widened-none : (n : ℕ) → Widened n [] []
 widened-none n = record { holds = λ x l. (λ t. absurd (false≢true t), λ w. w .3) }
+
+pub right-none : (n : ℕ) → MovedRight n [] []
+right-none n = record { holds = λ x l. sym (nothing (leb n x)) }
+  where
+    nothing : (a : Bool) → (a && false) ≡ false
+    nothing true = refl
+    nothing false = refl
+
+pub left-none : (n : ℕ) → MovedLeft n [] []
+left-none n = record { holds = λ x. refl }

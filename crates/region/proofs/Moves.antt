@@ -1,9 +1,9 @@
 -- Bands moved down. Assumes nothing.
 use mathlib.Core.Path.{_≡_, refl, sym, ap, subst, _∙_}
-use mathlib.Core.Logic.{⊎-elim}
+use mathlib.Core.Logic.{_⊎_, inl, inr, ⊎-elim}
 use mathlib.Core.Bool.{Bool, true, false, not, _&&_, cond}
 use mathlib.Core.List.{List, [], _∷_, _++_}
-use Prim.Native.Nat.{ℕ, zero, suc, _+_, _-_, _^_, _≤_, _<_}
+use Prim.Native.Nat.{ℕ, zero, suc, _+_, _-_, _^_, _≤_, _<_, max}
 use native.Mathlib.Omega.{arith}
 use lib.Dec.{leb}
 use lib.ListN.{length, getD, take, drop, take-append-drop}
@@ -12,9 +12,10 @@ use Rattle.std.proofs.shelf.Tests.{cases-lt, le-leb, lt-leb, leb-true, and-part
 use Rattle.std.specs.shelf.Text.{sameBytes}
 use Rattle.scanline.specs.Lines.{inside}
 use Rattle.scanline.specs.declared.band.Band.{Band}
-use Rattle.scanline.specs.Bands.{edges, lineAt, covers, canonical, Canonical}
-use Rattle.region.specs.Shifts.{Shifted}
-use Rattle.scanline.proofs.Rows.{From, canonical-from, line-before}
+use Rattle.scanline.specs.Bands.{edges, lineAt, covers, canonical, Canonical, Added}
+use Rattle.region.specs.Shifts.{RowRoom, ShiftedDown, ShiftedUp}
+use Rattle.region.proofs.Unique.{still-upper, upper-at}
+use Rattle.scanline.proofs.Rows.{From, Canon, canonical-from, canon-canonical, canon-more, line-before, line-push, topped}
 
 -- each band of r is that of a, n rows later
 abbrev pub Moved : ℕ → List Band → List Band → Type 0
@@ -88,15 +89,20 @@ shifted-rows n a r x y late early =
     (λ l. ap (λ es. inside es x) (late l) ∙ rw (le-leb n y l))
     (cases-lt y n)
 
-pub move-all : (n : ℕ) (a r : List Band) (i : ℕ) → Canonical a → Moving n a r i → length a ≤ i → Canonical r × Shifted n a r
+pub move-all : (n : ℕ) (a r : List Band) (i : ℕ) → Canonical a → Moving n a r i → length a ≤ i → Canonical r × ShiftedDown n a r
 move-all n a r i k h l =
     let m = rw (take-all i a l) at (h .moved) in
     (moved-canonical n 0 0 [] a r m (omega arith) k, record { holds = λ x y b. shifted-rows n a r x y (λ s. moved-late n [] a r y m s) (λ s. moved-early n [] a r y m s) })
 
-pub move-stop : (n : ℕ) (a r : List Band) (i : ℕ) (b : Band) → Canonical a → Moving n a r i → i < length a → b ≡ getD a i b → (b .from + n < 2 ^ 64 → ⊥) → Canonical r × Shifted n a r
+pub move-stop : (n : ℕ) (a r : List Band) (i : ℕ) (b : Band) → Canonical a → Moving n a r i → i < length a → b ≡ getD a i b → (b .from + n < 2 ^ 64 → ⊥) → Canonical r × ShiftedDown n a r
 move-stop n a r i b k h l is over = (
   moved-canonical n 0 0 [] (take i a) r (h .moved) (omega arith) (canonical-take i 0 [] a k),
-  record { holds = λ x y s. shifted-rows n a r x y (λ t. moved-late n [] (take i a) r y (h .moved) t ∙ sym (cut y s t)) (λ t. moved-early n [] (take i a) r y (h .moved) t) },
+  record {
+    holds = λ x y room. elim room [
+      | inl s ↦ shifted-rows n a r x y (λ t. moved-late n [] (take i a) r y (h .moved) t ∙ sym (cut y s t)) (λ t. moved-early n [] (take i a) r y (h .moved) t)
+      | inr s ↦ absurd (over (omega (arith, s .fits, upper-at (s .end) a i b (still-upper (s .end) a k (s .still)) l is)))
+    ];
+  },
 )
   where
     rest : From (b .from) (drop i a)
@@ -107,3 +113,50 @@ move-stop n a r i b k h l is over = (
         ap (λ v. lineAt [] v (y - n)) (sym (take-append-drop i a))
         ∙ line-append [] (take i a) (drop i a) (y - n)
         ∙ line-before _ (b .from) (drop i a) (y - n) rest (⊎-elim (λ v. v) (λ v. absurd (over (omega arith))) (cases-lt (y - n) (b .from)))
+
+-- up: the first i bands are moved, and those that come to the first row are replaced
+pub record Rising (n : ℕ) (a out : List Band) (i : ℕ) : Type 0 where
+  pub low : ℕ
+  pub from : From low (drop i a)
+  pub ordered : Canon [] 0 (max 1 (low - n)) out
+  pub is : (y : ℕ) → lineAt [] out y ≡ lineAt [] (take i a) (y + n)
+
+pub rise-none : (n : ℕ) (a : List Band) → Canonical a → Rising n a [] 0
+rise-none n a h = record { low = 0; from = canonical-from [] 0 a h; ordered = omega arith; is = λ y. refl }
+
+module _ (n : ℕ) (a out : List Band) (i : ℕ) (b : Band) (l : i < length a) (is : b ≡ getD a i b) (h : Rising n a out i) (line : List ℕ) (same : line ≡ edges b) (out′ : List Band) where
+  here : From (h .low) (b ∷ drop (i + 1) a)
+  here = rw (drop-more a i b l, ← is) at (h .from)
+
+  shown : (y : ℕ) → lineAt [] (take (i + 1) a) y ≡ cond (leb (b .from) y) (edges b) (lineAt [] (take i a) y)
+  shown y = rw (take-more a i b l, ← is) (line-push [] (take i a) b y)
+
+  pub rise-top : b .from ≤ n → Added (b .from - n) line [] out′ → Rising n a out′ (i + 1)
+  rise-top m d =
+      let z : b .from - n ≡ 0 = omega arith in
+      let t = topped 0 0 line [] out′ (omega arith) (omega arith) (subst (λ v. Added v line [] out′) z d) in
+      record {
+        low = suc (b .from);
+        from = here .1;
+        ordered = canon-more [] 0 1 (max 1 (suc (b .from) - n)) out′ (t .ordered) (omega arith);
+        is = λ y. t .late y (omega arith) ∙ same ∙ sym (shown (y + n) ∙ rw (le-leb (b .from) (y + n) (omega arith)));
+      }
+
+  pub rise-more : n < b .from → Added (b .from - n) line out out′ → Rising n a out′ (i + 1)
+  rise-more m d =
+      let t = topped (max 1 (h .low - n)) (b .from - n) line out out′ (h .ordered) (omega (arith, here .0)) d in
+      record {
+        low = suc (b .from);
+        from = here .1;
+        ordered = canon-more [] 0 (suc (b .from - n)) (max 1 (suc (b .from) - n)) out′ (t .ordered) (omega arith);
+        is = λ y. ⊎-elim
+            (λ k. t .early y k ∙ h .is y ∙ sym (shown (y + n) ∙ rw (lt-leb (b .from) (y + n) (omega arith))))
+            (λ k. t .late y k ∙ same ∙ sym (shown (y + n) ∙ rw (le-leb (b .from) (y + n) (omega arith))))
+            (cases-lt y (b .from - n));
+      }
+
+pub rise-all : (n : ℕ) (a out : List Band) (i : ℕ) → length a ≤ i → Rising n a out i → Canonical out × ShiftedUp n a out
+rise-all n a out i l h = (
+  canon-canonical [] 0 _ out (h .ordered),
+  record { holds = λ x y. ap (λ es. inside es x) (h .is y ∙ ap (λ v. lineAt [] v (y + n)) (take-all i a l)) },
+)

@@ -1,9 +1,9 @@
 -- A set of squares has one canonical list of bands. Assumes nothing.
 use mathlib.Core.Path.{_≡_, refl, sym, ap, subst, _∙_}
-use mathlib.Core.Logic.{_⊎_, ⊎-elim}
+use mathlib.Core.Logic.{_⊎_, inl, inr, ⊎-elim}
 use mathlib.Core.Bool.{Bool, true, false, not, cond}
 use mathlib.Core.List.{List, [], _∷_}
-use Prim.Native.Nat.{ℕ, suc, _≤_, _<_}
+use Prim.Native.Nat.{ℕ, zero, suc, _≤_, _<_}
 use native.Mathlib.Omega.{arith}
 use lib.Dec.{leb, eqb}
 use lib.ListN.{length, getD, drop}
@@ -19,20 +19,20 @@ use Rattle.region.specs.Regions.{Alike}
 use Rattle.scanline.proofs.Rows.{From, canonical-from, line-before}
 
 -- what canonical says, taken apart
-canon-parts : (line : List ℕ) (p : ℕ) (b : Band) (bs : List Band) → canonical line p (b ∷ bs) ≡ true → (p ≤ b .from) × (line ≡ edges b → ⊥) × (canonical (edges b) (suc (b .from)) bs ≡ true)
+pub canon-parts : (line : List ℕ) (p : ℕ) (b : Band) (bs : List Band) → canonical line p (b ∷ bs) ≡ true → (p ≤ b .from) × (line ≡ edges b → ⊥) × (canonical (edges b) (suc (b .from)) bs ≡ true)
 canon-parts line p b bs h =
     let u = and-parts (leb p (b .from)) _ h in
     let v = and-parts (not (sameBytes line (edges b))) _ (u .1) in
     (leb-true p (b .from) (u .0), (λ e. both-ways _ (not-true _ (v .0)) (sameBytes-decides line (edges b) .1 e)), v .1)
 
 -- at its first row a band shows its line
-at-first : (line : List ℕ) (b : Band) (bs : List Band) → canonical (edges b) (suc (b .from)) bs ≡ true → lineAt line (b ∷ bs) (b .from) ≡ edges b
+pub at-first : (line : List ℕ) (b : Band) (bs : List Band) → canonical (edges b) (suc (b .from)) bs ≡ true → lineAt line (b ∷ bs) (b .from) ≡ edges b
 at-first line b bs h = rw (le-leb (b .from) (b .from) (omega arith)) (line-before (edges b) (suc (b .from)) bs (b .from) (canonical-from (edges b) (suc (b .from)) bs h) (omega arith))
 
-before : (line : List ℕ) (b : Band) (bs : List Band) (y : ℕ) → canonical (edges b) (suc (b .from)) bs ≡ true → y < b .from → lineAt line (b ∷ bs) y ≡ line
+pub before : (line : List ℕ) (b : Band) (bs : List Band) (y : ℕ) → canonical (edges b) (suc (b .from)) bs ≡ true → y < b .from → lineAt line (b ∷ bs) y ≡ line
 before line b bs y h l = line-before line (b .from) (b ∷ bs) y (omega arith, canonical-from (edges b) (suc (b .from)) bs h) l
 
-after : (line : List ℕ) (b : Band) (bs : List Band) (y : ℕ) → b .from ≤ y → lineAt line (b ∷ bs) y ≡ lineAt (edges b) bs y
+pub after : (line : List ℕ) (b : Band) (bs : List Band) (y : ℕ) → b .from ≤ y → lineAt line (b ∷ bs) y ≡ lineAt (edges b) bs y
 after line b bs y l = rw (le-leb (b .from) y l)
 
 one-from : (line : List ℕ) (p : ℕ) (a b : List Band) → canonical line p a ≡ true → canonical line p b ≡ true → ((y : ℕ) → lineAt line a y ≡ lineAt line b y) → Alike a b
@@ -61,7 +61,7 @@ one-from line p (a ∷ xs) (b ∷ bs) h g s =
     o)
     (cases-order (a .from) (b .from))
 
-row-sorted : (line : List ℕ) (bs : List Band) (y : ℕ) → Sorted line → Sorted (lineAt line bs y)
+pub row-sorted : (line : List ℕ) (bs : List Band) (y : ℕ) → Sorted line → Sorted (lineAt line bs y)
 row-sorted line [] y h = h
 row-sorted line (b ∷ bs) y h = row-sorted (cond (leb (b .from) y) (edges b) line) bs y (either (leb (b .from) y))
   where
@@ -103,3 +103,26 @@ compare-all a b [] [] l h = (λ t. h .back tt, λ k. eq-eqb 0 0 refl)
 compare-all a b [] (d ∷ ds) l h = (λ t. let z = eqb-true 0 (length (d ∷ ds)) t in absurd (omega arith), λ k. absurd (h .on k))
 compare-all a b (c ∷ cs) [] l h = (λ t. let z = eqb-true (length (c ∷ cs)) 0 t in absurd (omega arith), λ k. absurd (h .on k))
 compare-all a b (c ∷ cs) (d ∷ ds) l h = absurd (omega arith)
+
+-- no band begins past row m
+abbrev pub Upper : ℕ → List Band → Type 0
+Upper m [] = Unit {0}
+Upper m (b ∷ bs) = (b .from ≤ m) × Upper m bs
+
+-- where nothing changes from row m on no band begins past it
+upper-from : (m p : ℕ) (line : List ℕ) (bs : List Band) → Sorted line → canonical line p bs ≡ true → ((x y : ℕ) → m ≤ y → inside (lineAt line bs y) x ≡ inside (lineAt line bs m) x) → Upper m bs
+upper-from m p line [] o h s = tt
+upper-from m p line (b ∷ bs) o h s =
+    let k = canon-parts line p b bs h in
+    elim (cases-lt m (b .from)) [
+      | inl l ↦ absurd (k .1 (one-line line (edges b) o (b .line .sorted) (λ x. ap (λ es. inside es x) (sym (before line b bs m (k .2) l)) ∙ sym (s x (b .from) (omega arith)) ∙ ap (λ es. inside es x) (at-first line b bs (k .2)))))
+      | inr l ↦ (l, upper-from m (suc (b .from)) (edges b) bs (b .line .sorted) (k .2) (λ x y g. ap (λ es. inside es x) (sym (after line b bs y (omega arith))) ∙ s x y g ∙ ap (λ es. inside es x) (after line b bs m l)))
+    ]
+
+pub still-upper : (m : ℕ) (bs : List Band) → Canonical bs → ((x y : ℕ) → m ≤ y → covers bs x y ≡ covers bs x m) → Upper m bs
+still-upper m bs h s = upper-from m 0 [] bs refl h s
+
+pub upper-at : (m : ℕ) (bs : List Band) (i : ℕ) (b : Band) → Upper m bs → i < length bs → b ≡ getD bs i b → b .from ≤ m
+upper-at m [] i b h l e = absurd (omega arith)
+upper-at m (c ∷ cs) zero b h l e = omega (arith, h .0, ap (λ v. v .from) e)
+upper-at m (c ∷ cs) (suc i) b h l e = upper-at m cs i b (h .1) (omega arith) e

@@ -75,3 +75,28 @@ last-is line (c ∷ []) b l is = ap edges is
 last-is line (c ∷ d ∷ ds) b l is =
     let e : length (c ∷ d ∷ ds) - 1 ≡ suc (length (d ∷ ds) - 1) = omega arith in
     last-is (edges c) (d ∷ ds) b (omega arith) (is ∙ ap (λ i. getD (c ∷ d ∷ ds) i b) e)
+
+-- a band added at a row past all others
+pub record Topped (row : ℕ) (line : List ℕ) (out out′ : List Band) : Type 0 where
+  pub ordered : Canon [] 0 (suc row) out′
+  pub early : (y : ℕ) → y < row → lineAt [] out′ y ≡ lineAt [] out y
+  pub late : (y : ℕ) → row ≤ y → lineAt [] out′ y ≡ line
+  pub last : lastLine [] out′ ≡ line
+
+pub topped : (low row : ℕ) (line : List ℕ) (out out′ : List Band) → Canon [] 0 low out → low ≤ row → Added row line out out′ → Topped row line out out′
+topped low row line out out′ o l (inl s) = rw (s .1) (record {
+  ordered = canon-more [] 0 low (suc row) out o (omega arith);
+  early = λ y m. refl;
+  late = λ y m. line-late [] 0 low out y o (omega arith) ∙ s .0;
+  last = s .0;
+})
+topped low row line out out′ o l (inr n) =
+    let new = n .1 .0 in
+    let at : new .from ≡ row = n .1 .1 in
+    let is : edges new ≡ line = n .1 .2 in
+    rw (n .1 .3) (record {
+      ordered = rw (← at) (canon-push [] 0 low out new o (omega arith) (λ e. n .0 (e ∙ is)));
+      early = λ y m. line-push [] out new y ∙ rw (lt-leb (new .from) y (omega arith));
+      late = λ y m. line-push [] out new y ∙ rw (le-leb (new .from) y (omega arith)) is;
+      last = last-push [] out new ∙ is;
+    })

@@ -14,7 +14,7 @@ use Rattle.scanline.specs.declared.band.Band.{Band}
 use Rattle.scanline.specs.Bands.{edges, lineAt, covers, Canonical, lastLine, Added}
 use Rattle.scanline.specs.declared.span.Span.{Span}
 use Rattle.scanline.specs.Spans.{across, any-across, any-still, any-covers, no-span, ByColumns, ByRows, alive, Last, Advanced, next-edge}
-use Rattle.scanline.proofs.Rows.{Canon, canon-canonical, canon-more, canon-push, line-late, line-push, last-push}
+use Rattle.scanline.proofs.Rows.{Canon, canon-canonical, line-late, topped}
 use Rattle.scanline.proofs.Advances.{Next, next-is, no-next, or-none, or-assoc, alive-most, alive-short}
 use Rattle.scanline.proofs.Spannings.{Split, split-at}
 
@@ -63,31 +63,6 @@ sweep-all spans out live rest e h =
           (λ l. ap (λ es. inside es x) (line-late [] 0 (h .low) out y (h .ordered) l) ∙ h .last x ∙ ap (λ v. any-across v x) (n .0) ∙ sym (h .to-come x y l ∙ rw (n .0, n .1)))
           (cases-lt y (h .low)),
     )
-
--- a band added at a row past all others
-pub record Topped (row : ℕ) (line : List ℕ) (out out′ : List Band) : Type 0 where
-  pub ordered : Canon [] 0 (suc row) out′
-  pub early : (y : ℕ) → y < row → lineAt [] out′ y ≡ lineAt [] out y
-  pub late : (y : ℕ) → row ≤ y → lineAt [] out′ y ≡ line
-  pub last : lastLine [] out′ ≡ line
-
-pub topped : (low row : ℕ) (line : List ℕ) (out out′ : List Band) → Canon [] 0 low out → low ≤ row → Added row line out out′ → Topped row line out out′
-topped low row line out out′ o l (inl s) = rw (s .1) (record {
-  ordered = canon-more [] 0 low (suc row) out o (omega arith);
-  early = λ y m. refl;
-  late = λ y m. line-late [] 0 low out y o (omega arith) ∙ s .0;
-  last = s .0;
-})
-topped low row line out out′ o l (inr n) =
-    let new = n .1 .0 in
-    let at : new .from ≡ row = n .1 .1 in
-    let is : edges new ≡ line = n .1 .2 in
-    rw (n .1 .3) (record {
-      ordered = rw (← at) (canon-push [] 0 low out new o (omega arith) (λ e. n .0 (e ∙ is)));
-      early = λ y m. line-push [] out new y ∙ rw (lt-leb (new .from) y (omega arith));
-      late = λ y m. line-push [] out new y ∙ rw (le-leb (new .from) y (omega arith)) is;
-      last = last-push [] out new ∙ is;
-    })
 
 module _ (spans : List Span) (out : List Band) (live rest : List Span) (h : Sweeping spans out live rest) (row : ℕ) (e : next-edge live rest ≡ Some row) where
   next : Next live rest row

@@ -40,6 +40,14 @@ impl Line {
         Ok(Line { edges })
     }
 
+    // All columns from one on.
+    pub fn ray(heap: Global, from: u64) -> Result<Line, AllocError>
+        ensures { λ r. ⌜ made r (λ v. vec-items (v .edges) ≡ from ∷ []) ⌝ }
+    {
+        let edges = vec![in heap; from]?;
+        Ok(Line { edges })
+    }
+
     // All columns of spans in the order of their columns.
     pub fn of_spans(heap: Global, spans: &[Span]) -> Result<Line, AllocError>
         requires { ⌜ ByColumns 0 (now spans) ⌝ }

@@ -1,7 +1,7 @@
 use Rattle.scanline.specs.Lines.{Widened}
 use Rattle.scanline.specs.Edges.{edges-of}
 use Rattle.region.proofs.Lifts.{lift-none, lift-more, lift-all, widened-none}
-use Rattle.region.proofs.lift.widen_bands.Needs as need
+use Rattle.region.proofs.widen.widen_lines.Needs as need
 
 pub loop-band-holds : need.loop-band-holds
 loop-band-holds c = rw (c .new-out .ensures .items) (lift-none (Widened (c .args .by)) (c .args .bands .now) (c .pre) (widened-none (c .args .by)))
