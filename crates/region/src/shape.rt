@@ -1,6 +1,6 @@
 // Regions made, and looked into.
 ghost use mathlib.Core.Path.{_≡_};
-ghost use mathlib.Core.Bool.{_&&_, true, not};
+ghost use mathlib.Core.Bool.{_&&_, true, false, not};
 ghost use mathlib.Core.List.{[]};
 ghost use Prim.Native.Nat.{ℕ, _^_, _<_};
 ghost use lib.Dec.{leb, ltb};
@@ -37,6 +37,21 @@ fn line_at<'a>(none: &'a Line, bands: &'a [Band], y: u64) -> &'a Line
 }
 
 impl Region {
+    pub fn empty(heap: Global) -> Region
+        ensures { λ r. ⌜ ((x y : ℕ) → covers (vec-items (r .bands)) x y ≡ false) ⌝ }
+    {
+        let bands = Vec::new(heap);
+        Region { bands }
+    }
+
+    pub fn copy(&self, heap: Global) -> Result<Region, AllocError>
+        ensures { λ r. ⌜ made r (λ v. (x y : ℕ) → covers (vec-items (v .bands)) x y ≡ covers (vec-items (now (self .entry) .bands)) x y) ⌝ }
+    {
+        let none = Region::empty(heap);
+        let out = self.combine(heap, Op::Without, &none)?;
+        Ok(out)
+    }
+
     // The squares from (left, top) up to (right, bottom), without these two edges.
     pub fn rectangle(
         heap: Global,

@@ -1,0 +1,5 @@
+mod Readings
+mod Surroundings
+mod Marks
+mod Evaluations
+mod Linkings

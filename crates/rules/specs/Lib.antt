@@ -1,0 +1,7 @@
+pub mod Rules
+pub mod Numbers
+pub mod Terms
+pub mod Tests
+pub mod Layers
+pub mod Values
+pub mod Judged
