@@ -1,10 +1,11 @@
-use mathlib.Core.Path.{_≡_, sym, ap, _∙_}
-use Prim.Native.Nat.{_<_, _≤_}
+-- Why `find` meets its contract.
+use mathlib.Core.Path.{_≡_, sym, _∙_}
+use Prim.Native.Nat.{_<_}
 use native.Mathlib.Omega.{arith}
 use lib.ListN.{length}
-use Rattle.std.specs.Of.Vec.{vec-len, vec-items}
-use Rattle.groups.specs.Roots.{root, parent}
-use Rattle.groups.proofs.Climbs.{root-at, root-low, read-parent, half-up, half-low, half-less, half-falls, half-same, half-alike, alike-on}
+use Rattle.std.specs.Of.Vec.{vec-items}
+use Rattle.groups.specs.Roots.{root}
+use Rattle.groups.proofs.Roots.{root-at, root-low, read-parent, half-low, half-less, half-falls, half-same, half-alike, alike-on}
 use Rattle.groups.proofs.forest.Groups.find.Needs as need
 
 pub returns-then-up-at : need.returns-then-up-at

@@ -1,10 +1,11 @@
-use mathlib.Core.Path.{_≡_, sym, _∙_}
+-- Why `join` meets its contract.
+use mathlib.Core.Path.{_∙_}
 use Prim.Native.Nat.{_<_}
 use native.Mathlib.Omega.{arith}
 use lib.ListN.{length}
-use Rattle.std.specs.Of.Vec.{vec-len, vec-items}
+use Rattle.std.specs.Of.Vec.{vec-items}
 use Rattle.groups.specs.Roots.{root}
-use Rattle.groups.proofs.Climbs.{alike-on, joined-link, link-falls}
+use Rattle.groups.proofs.Roots.{alike-on, joined-link, link-falls}
 use Rattle.groups.proofs.forest.Groups.join.Needs as need
 
 pub ghost-self : need.ghost-self

@@ -1,11 +1,10 @@
-use borrow.Author.Needs.{needs}
+-- Why `new` meets its contract.
 use borrow.Author.Count.{below-more}
 use native.Mathlib.Omega.{arith}
-use Prim.Native.Nat.{ℕ, _<_}
 use mathlib.Core.Path.{_≡_, refl, subst, _∙_}
-use lib.ListN.{length, getD}
-use Rattle.std.specs.Of.Vec.{vec-len, vec-items}
-use Rattle.groups.proofs.Climbs.{root-at, all-own}
+use lib.ListN.{getD}
+use Rattle.std.specs.Of.Vec.{vec-items}
+use Rattle.groups.proofs.Roots.{root-at, all-own}
 use Rattle.groups.proofs.forest.Groups.new.Needs as need
 
 pub loop-i-again : need.loop-i-again

@@ -1,0 +1,4 @@
+-- What contracts on tiles cite.
+pub mod Tiles
+pub mod Cuts
+pub mod Links

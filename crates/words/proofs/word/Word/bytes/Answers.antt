@@ -1,0 +1,7 @@
+use mathlib.Core.Path.{_≡_, subst, sym, ap, _∙_}
+use native.Mathlib.Omega.{arith}
+use Rattle.words.proofs.Words.{between-clipped}
+use Rattle.words.proofs.word.Word.bytes.Needs as need
+
+pub returns : need.returns
+returns c = between-clipped (c .args .text .now) (c .args .self .start) (c .args .self .end) (c .min-start .result) (c .min-end .result) (c .min-end .ensures) (c .min-start .ensures)

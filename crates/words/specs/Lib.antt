@@ -1,0 +1,6 @@
+-- The definitions that the contracts cite.
+pub mod Words
+pub mod Lines
+pub mod Numbers
+pub mod Chains
+pub mod Names
