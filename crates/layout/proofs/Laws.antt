@@ -1,12 +1,11 @@
 -- The laws of layouts. Assumes nothing.
-use mathlib.Core.Path.{_≡_, refl, sym, ap, _∙_}
-use mathlib.Core.Bool.{Bool, true, false, _&&_, _||_}
-use Prim.Native.Nat.{ℕ, zero, suc, _+_, _*_, _-_, _≤_, _<_}
+use mathlib.Core.Path.{_≡_}
+use Prim.Native.Nat.{ℕ, _+_, _-_, _<_}
 use native.Mathlib.Omega.{arith}
-use lib.Dec.{ltb, leb, eqb}
+use lib.Dec.{ltb}
 use Rattle.std.proofs.shelf.Ways.{tells}
 use Rattle.std.proofs.shelf.Tests.{lt-ltb}
-use Rattle.layout.specs.Layout.{Layout, nothing, box, both, moved, turned, mirrored, row, column, cell, Drawing, shifted, drawn-with}
+use Rattle.layout.specs.Layout.{Layout, nothing, box, moved, turned, mirrored, Drawing, shifted, drawn-with}
 
 pub box-moved : (c : ℕ → Drawing) (r b l u v a h k x y : ℕ) → drawn-with c (moved r b (box l u v a h)) k x y ≡ drawn-with c (box l (u + r) (v + b) a h) k x y
 unfolding drawn-with shifted

@@ -1,16 +1,14 @@
 -- What a node's numbers say, kind by kind. Assumes nothing.
-use mathlib.Core.Path.{_≡_, refl, sym, ap, _∙_}
-use mathlib.Core.Bool.{Bool, true, false, _&&_, _||_}
+use mathlib.Core.Path.{_≡_}
+use mathlib.Core.Bool.{true, false}
 use mathlib.Core.List.{List, [], _∷_}
-use mathlib.Core.Logic.{_⊎_, inl, inr}
+use mathlib.Core.Logic.{inl, inr}
 use Prim.Native.Nat.{ℕ, zero, suc, _+_, _*_, _-_, _≤_, _<_}
 use native.Mathlib.Omega.{arith}
-use lib.Dec.{ltb, leb, eqb}
-use lib.ListN.{length, getD}
-use Rattle.std.proofs.shelf.Ways.{tells}
+use lib.Dec.{ltb, leb}
+use lib.ListN.{getD}
 use Rattle.std.proofs.shelf.Tests.{and-parts, and-from, and-left, and-right, leb-true, ltb-true, lt-ltb, le-ltb, lt-leb, cases-eq}
 use Rattle.layout.specs.Limits.{max-number}
-use Rattle.layout.specs.Layout.{Layout}
 use Rattle.layout.specs.Numbers.{node-of, all-at-most, earlier-1}
 use Rattle.layout.specs.Nodes.{numbered, orderly, Read}
 use Rattle.layout.specs.declared.node.Node.{Node}

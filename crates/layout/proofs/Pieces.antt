@@ -1,23 +1,21 @@
 -- What a node of a checked layout stands for. Assumes nothing.
 use mathlib.Core.Path.{_≡_, refl, sym, ap, subst, _∙_}
-use mathlib.Core.Bool.{Bool, true, false, _&&_}
-use mathlib.Core.List.{List, [], _∷_, _++_, map}
-use mathlib.Core.Logic.{_⊎_, inl, inr}
-use Prim.Native.Nat.{ℕ, zero, suc, min, _+_, _*_, _^_, _-_, _≤_, _<_}
+use mathlib.Core.Bool.{true}
+use mathlib.Core.List.{List}
+use mathlib.Core.Logic.{inl, inr}
+use Prim.Native.Nat.{ℕ, zero, suc, _+_, _*_, _^_, _-_, _<_}
 use native.Mathlib.Omega.{arith}
 use native.Mathlib.Nat.{mul-zero}
-use lib.ListN.{length, getD}
-use Rattle.std.proofs.shelf.Tests.{and-parts, cases-lt, cases-eq}
+use Rattle.std.proofs.shelf.Tests.{and-parts, cases-eq}
 use Rattle.std.proofs.shelf.Elements.{all-append, all-weaker}
 use Rattle.std.proofs.shelf.Bits.{mul-le}
 use Rattle.std.specs.shelf.Lists.{All}
 use Rattle.layout.specs.Limits.{max-number}
-use Rattle.layout.specs.Layout.{Layout, nothing, box, both, moved, turned, mirrored, row, column, cell}
-use Rattle.layout.specs.Numbers.{node-of, node-at, sixes, all-at-most, earlier-1, earlier}
+use Rattle.layout.specs.Layout.{Layout, nothing, box, both, row, column}
+use Rattle.layout.specs.Numbers.{node-at, sixes, earlier}
 use Rattle.layout.specs.Nodes.{layout-of, Modest, numbered, orderly, Read}
 use Rattle.layout.specs.Pieces.{piece, Sound}
-use Rattle.layout.specs.Rects.{move-rect, turn-rect, mirror-rect, copies, rects, Within}
-use Rattle.layout.specs.declared.rect.Rect.{Rect}
+use Rattle.layout.specs.Rects.{copies, rects, Within}
 use Rattle.layout.specs.declared.node.Node.{Node}
 use Rattle.layout.specs.declared.node.Node.the-variants.{Nothing, One, Both, Changed, Row, Column}
 use Rattle.layout.specs.Changes.{changed}

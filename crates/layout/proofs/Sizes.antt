@@ -1,22 +1,15 @@
 -- How many boxes a layout has, how far they reach, and which node a name stands for. Assumes nothing.
 use mathlib.Core.Path.{_≡_, refl, sym, ap, _∙_}
-use mathlib.Core.Bool.{Bool, true, false, _&&_, _||_}
-use mathlib.Core.List.{List, [], _∷_, _++_, map}
-use mathlib.Core.Logic.{_⊎_, inl, inr}
-use Prim.Native.Nat.{ℕ, zero, suc, min, _+_, _*_, _-_, _≤_, _<_}
+use mathlib.Core.List.{List, [], _∷_, map}
+use Prim.Native.Nat.{ℕ, zero, suc, _+_, _*_, _-_, _≤_}
 use native.Mathlib.Omega.{arith}
-use native.Mathlib.Nat.{mul-zero, zero-mul, suc-mul}
-use lib.Dec.{ltb, leb, eqb}
-use lib.ListN.{length, getD}
-use Rattle.std.proofs.shelf.Ways.{tells}
+use native.Mathlib.Nat.{zero-mul, suc-mul}
+use lib.ListN.{length}
 use Rattle.std.proofs.shelf.Lists.{length-append, length-map}
-use Rattle.std.proofs.shelf.Elements.{all-append, all-map, all-weaker}
-use Rattle.std.proofs.shelf.Bits.{mul-le}
-use Rattle.std.proofs.shelf.Tests.{and-parts, leb-true}
+use Rattle.std.proofs.shelf.Elements.{all-append, all-map}
 use Rattle.std.specs.shelf.Lists.{All}
-use Rattle.layout.specs.Layout.{pick, Layout, nothing, box, both, moved, turned, mirrored, row, column, cell}
-use Rattle.layout.specs.Numbers.{node-of, node-at, sixes, all-at-most, earlier-1, earlier, boxes}
-use Rattle.layout.specs.Pieces.{piece, Sound}
+use Rattle.layout.specs.Layout.{Layout, nothing, box, both, moved, turned, mirrored, row, column, cell}
+use Rattle.layout.specs.Numbers.{boxes}
 use Rattle.layout.specs.Rects.{move-rect, turn-rect, mirror-rect, copies, rects, Within}
 use Rattle.layout.specs.declared.rect.Rect.{Rect}
 

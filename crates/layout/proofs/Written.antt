@@ -1,15 +1,14 @@
 -- What each arm of the recursion leaves. Assumes nothing.
-use mathlib.Core.Path.{_≡_, refl, sym, ap, subst, _∙_}
-use mathlib.Core.Bool.{Bool, true, false, _&&_}
+use mathlib.Core.Path.{_≡_, sym, ap, subst, _∙_}
 use mathlib.Core.List.{List, [], _∷_, _++_, map}
-use Prim.Native.Nat.{ℕ, zero, suc, min, _+_, _*_, _^_, _-_, _≤_, _<_}
+use Prim.Native.Nat.{ℕ, zero, suc, _+_, _^_, _-_, _≤_, _<_}
 use native.Mathlib.Omega.{arith}
-use native.Mathlib.Nat.{zero-mul, mul-zero}
+use native.Mathlib.Nat.{zero-mul}
 use lib.ListN.{length, getD, take, drop}
 use Rattle.std.proofs.shelf.Lists.{append-nil, append-assoc, take-at, drop-at, length-append, getD-append-right, nil-from-length}
 use Rattle.std.proofs.shelf.Elements.{all-getD}
 use Rattle.std.specs.shelf.Lists.{All, Every}
-use Rattle.layout.specs.Layout.{Layout, nothing, box, both, moved, turned, mirrored, row, column, cell}
+use Rattle.layout.specs.Layout.{Layout, nothing, box, row, column}
 use Rattle.layout.specs.Numbers.{sixes, boxes}
 use Rattle.layout.specs.Nodes.{layout-of, Read}
 use Rattle.layout.specs.Counts.{Counted}
@@ -22,7 +21,7 @@ use Rattle.layout.specs.Changes.{change-rect, Mild, Little}
 use Rattle.layout.specs.declared.change.Change.{Change}
 use Rattle.layout.specs.declared.change.Change.the-variants.{Move, Turn, Mirror}
 use Rattle.layout.proofs.Sizes.{rects-length}
-use Rattle.layout.proofs.Pieces.{piece-is, piece-small}
+use Rattle.layout.proofs.Pieces.{piece-is}
 
 -- what was added stands after what was there
 module _ (items qs ys : List Rect) (s : ℕ) (at : s ≡ length items) (added : ys ≡ items ++ qs) where

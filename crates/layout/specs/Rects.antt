@@ -1,5 +1,5 @@
 -- Boxes written out, and what they cover. Assumes nothing: these are definitions.
-use mathlib.Core.Bool.{Bool, false, _&&_, _||_}
+use mathlib.Core.Bool.{false, _&&_, _||_}
 use mathlib.Core.List.{List, [], _∷_, _++_, map}
 use Prim.Native.Nat.{ℕ, zero, suc, min, _+_, _*_, _-_, _≤_}
 use lib.Dec.{ltb, leb, eqb}

@@ -1,7 +1,7 @@
 -- Regions read word by word. Assumes nothing.
-use mathlib.Core.Path.{_≡_, refl, sym, ap, _∙_}
+use mathlib.Core.Path.{_≡_, sym, ap, _∙_}
 use mathlib.Core.Bool.{Bool, true, false, cond}
-use mathlib.Core.List.{List, [], _∷_, map}
+use mathlib.Core.List.{List, _∷_, map}
 use Prim.Native.Nat.{ℕ, _+_, _≤_, _<_}
 use native.Mathlib.Omega.{arith}
 use lib.ListN.{length, getD, drop}
@@ -11,7 +11,8 @@ use Rattle.std.specs.declared.option.Option.{Option}
 use Rattle.std.specs.declared.option.Option.the-variants.{Some, None}
 use Rattle.words.specs.Words.{Token, token-at}
 use Rattle.words.specs.declared.word.Word.{Word}
-use Rattle.rule_text.specs.Expressions.{Reading, Found, by-some, accept, is-done, region-from, Takes}
+use Rattle.words.specs.Steps.{by-some}
+use Rattle.rule_text.specs.Expressions.{Reading, Found, accept, is-done, region-from, Takes}
 
 pub taken-so : (m : Option Reading) (e : Reading) (t : Bool) → t ≡ true → Takes m e t → m ≡ Some e
 taken-so m e true h k = k

@@ -1,9 +1,9 @@
 -- Rules read line by line. Assumes nothing.
 use mathlib.Core.Path.{_≡_, refl, sym, ap, subst, _∙_}
-use mathlib.Core.Bool.{Bool, true, false, cond}
+use mathlib.Core.Bool.{cond}
 use mathlib.Core.List.{List, [], _∷_, _++_, map}
-use mathlib.Core.Logic.{_⊎_, inl, inr}
-use Prim.Native.Nat.{ℕ, zero, suc, _+_, _-_, _≤_, _<_}
+use mathlib.Core.Logic.{inl, inr}
+use Prim.Native.Nat.{ℕ, suc, _+_, _-_, _≤_, _<_}
 use native.Mathlib.Omega.{arith}
 use lib.Dec.{eqb}
 use lib.ListN.{length, take, drop}
@@ -16,14 +16,14 @@ use Rattle.std.specs.declared.result.Result.the-variants.{Ok, Err}
 use Rattle.layout.specs.declared.refusal.Fault.{Fault}
 use Rattle.layout.specs.declared.refusal.Fault.the-variants.{Refused, Memory}
 use Rattle.words.specs.Lines.{lines-of}
-use Rattle.words.specs.Words.{Token, words-of, token-at, rest-of-line, Cut}
+use Rattle.words.specs.Words.{words-of, token-at, rest-of-line, Cut}
 use Rattle.words.specs.declared.word.Word.{Word}
 use Rattle.words.specs.declared.word.Marks.the-variants.{Parentheses}
 use Rattle.words.proofs.Lines.{rest-take, rest-short, lines-last, lines-next}
-use Rattle.rule_text.specs.Expressions.{by-some}
+use Rattle.words.specs.Steps.{by-some, and-then}
 use Rattle.rule_text.specs.Rules.{Rule, rule-in, rule-of, Rule-read}
 use Rattle.rule_text.specs.declared.rule.RuleText.{RuleText}
-use Rattle.rule_text.specs.RuleTexts.{and-then, lined, rules-from, Follows, Rules-read}
+use Rattle.rule_text.specs.RuleTexts.{lined, rules-from, Follows, Rules-read}
 
 -- one line
 module _ (line : List ℕ) (n : ℕ) (rs : List Rule) (ws : List Word) (cut : Cut Parentheses line ws) where

@@ -1,7 +1,7 @@
 -- The numbers and messages of rules. Assumes nothing.
 use mathlib.Core.Path.{_≡_, refl, sym, ap, subst, _∙_}
 use mathlib.Core.List.{List, [], _∷_, map}
-use Prim.Native.Nat.{ℕ, zero, suc, _+_, _-_, _≤_, _<_}
+use Prim.Native.Nat.{ℕ, _+_, _-_, _≤_, _<_}
 use native.Mathlib.Omega.{arith}
 use lib.ListN.{length, getD, drop}
 use Rattle.std.proofs.shelf.Lists.{drop-more, drop-all, getD-map, getD-drop, getD-default, length-map, length-drop}
@@ -11,7 +11,7 @@ use Rattle.std.specs.declared.option.Option.the-variants.{Some, None}
 use Rattle.words.specs.Numbers.{number-in}
 use Rattle.words.specs.Words.{Token, token-at}
 use Rattle.words.specs.declared.word.Word.{Word}
-use Rattle.rule_text.specs.Expressions.{by-some}
+use Rattle.words.specs.Steps.{by-some}
 use Rattle.rule_text.specs.Rules.{Counted, Rule, number-first, last-end, message-of, after-kind, rule-in, Rule-read}
 use Rattle.rule_text.specs.Operators.{rule-kind-of}
 use Rattle.rule_text.specs.declared.operator.RuleKind.{RuleKind}

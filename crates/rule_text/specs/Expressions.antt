@@ -12,6 +12,7 @@ use Rattle.std.specs.declared.option.Option.{Option}
 use Rattle.std.specs.declared.option.Option.the-variants.{Some, None}
 use Rattle.words.specs.Numbers.{number-in}
 use Rattle.words.specs.Words.{Token}
+use Rattle.words.specs.Steps.{by-some}
 use Rattle.rule_text.specs.Operators.{operator-of, number-of}
 use Rattle.rule_text.specs.declared.operator.Operator.{Operator}
 use Rattle.rule_text.specs.declared.operator.Operator.the-variants as operator
@@ -30,10 +31,6 @@ pub record Reading : Type 0 where
 
 abbrev pub expression-of : Expression → Reading
 expression-of e = record { nodes = vec-items (e .nodes); frames = vec-items (e .frames); next = e .awaits }
-
-abbrev pub by-some : {A B : Type 0} → Option A → B → (A → B) → B
-by-some None b f = b
-by-some (Some a) b f = f a
 
 abbrev pub last-node : Reading → ℕ
 last-node e = length (e .nodes) / 3 - 1

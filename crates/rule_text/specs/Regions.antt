@@ -4,11 +4,10 @@ use mathlib.Core.List.{List, [], _∷_, _++_}
 use Prim.Native.Nat.{ℕ, _+_, _*_, _-_}
 use lib.Chars.{codes}
 use lib.ListN.{length}
-use Rattle.std.specs.declared.option.Option.{Option}
-use Rattle.std.specs.declared.option.Option.the-variants.{Some, None}
+use Rattle.std.specs.declared.option.Option.the-variants.{Some}
 use Rattle.words.specs.Numbers.{number-in}
 use Rattle.words.specs.Words.{Token}
-use Rattle.rule_text.specs.Expressions.{region-in}
+use Rattle.rule_text.specs.Expressions.{Found, region-in}
 
 -- a layer; two regions by and, or or without; a region grown by a number
 pub data Joint : Type 0 where
@@ -56,3 +55,8 @@ numbered k (grown n a) = numbered k a ++ (4 ∷ n ∷ (k + count a - 1) ∷ [])
 abbrev pub Reads-spelled : Type 0
 Reads-spelled =
     (r : Tree) (ts rest : List Token) (ns : List ℕ) (k : ℕ) → length ns ≡ 3 * k → Spells r ts → region-in ns (ts ++ rest) ≡ Some (record { nodes = ns ++ numbered k r; rest = rest })
+
+-- what is read as a region is spelled so
+abbrev pub Reads-only-spelled : Type 0
+Reads-only-spelled =
+    (ts : List Token) (ns : List ℕ) (k : ℕ) (f : Found) → length ns ≡ 3 * k → region-in ns ts ≡ Some f → (r : Tree) × (us : List Token) × (ts ≡ us ++ f .rest) × Spells r us × (f .nodes ≡ ns ++ numbered k r)

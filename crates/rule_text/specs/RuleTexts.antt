@@ -17,13 +17,9 @@ use Rattle.layout.specs.declared.refusal.Refusal.the-variants.{Text}
 use Rattle.words.specs.Lines.{lines-of}
 use Rattle.words.specs.Words.{words-of}
 use Rattle.words.specs.declared.word.Marks.the-variants.{Parentheses}
-use Rattle.rule_text.specs.Expressions.{by-some}
+use Rattle.words.specs.Steps.{by-some, and-then}
 use Rattle.rule_text.specs.Rules.{Rule, rule-in, rule-of}
 use Rattle.rule_text.specs.declared.rule.RuleText.{RuleText}
-
-abbrev pub and-then : {A B E : Type 0} → Result A E → (A → Result B E) → Result B E
-and-then (Ok a) f = f a
-and-then (Err e) f = Err e
 
 -- the rules after one line more, or its number where it can't be read; a line without words holds no rule
 abbrev pub lined : ℕ → List Rule → List ℕ → Result (List Rule) ℕ

@@ -1,19 +1,18 @@
 -- Rules as they are written, one to a line. Assumes nothing: these are definitions.
 use mathlib.Core.Path.{_≡_}
-use mathlib.Core.Bool.{Bool, true, false, cond}
-use mathlib.Core.List.{List, [], _∷_, _++_, map}
-use Prim.Native.Nat.{ℕ, suc, _-_}
-use lib.Dec.{eqb}
+use mathlib.Core.Bool.{cond}
+use mathlib.Core.List.{List, [], _∷_, _++_}
+use Prim.Native.Nat.{ℕ, _-_}
 use lib.ListN.{length, take, drop}
 use Rattle.std.specs.Of.Vec.{vec-items}
 use Rattle.std.specs.shelf.Lists.{between}
 use Rattle.std.specs.declared.option.Option.{Option}
 use Rattle.std.specs.declared.option.Option.the-variants.{Some, None}
 use Rattle.words.specs.Numbers.{number-in}
-use Rattle.words.specs.Words.{Token, words-of}
-use Rattle.words.specs.declared.word.Marks.the-variants.{Parentheses}
+use Rattle.words.specs.Words.{Token}
+use Rattle.words.specs.Steps.{by-some}
 use Rattle.rule_text.specs.Operators.{rule-kind-of}
-use Rattle.rule_text.specs.Expressions.{by-some, Found, region-in}
+use Rattle.rule_text.specs.Expressions.{Found, region-in}
 use Rattle.rule_text.specs.declared.operator.RuleKind.{RuleKind}
 use Rattle.rule_text.specs.declared.operator.RuleKind.the-variants.{Wide, Apart, Inside, Never}
 use Rattle.rule_text.specs.declared.rule.Number.{Number}

@@ -12,17 +12,17 @@ use Rattle.blocks.proofs.Counts.{all-true, true-all, tell-same, near-some, some
 use Rattle.rules.specs.Rules.{surrounded}
 
 -- what is asked at each offset
-abbrev held : ℕ → Squares → (x y i j : ℕ) → Bool
+abbrev pub held : ℕ → Squares → (x y i j : ℕ) → Bool
 held n s x y i j = leb n (x + i) && (leb n (y + j) && s (x + i - n) (y + j - n))
 
-parts : (n : ℕ) (s : Squares) (x y i j : ℕ) → held n s x y i j ≡ true → (n ≤ x + i) × (n ≤ y + j) × (s (x + i - n) (y + j - n) ≡ true)
+pub parts : (n : ℕ) (s : Squares) (x y i j : ℕ) → held n s x y i j ≡ true → (n ≤ x + i) × (n ≤ y + j) × (s (x + i - n) (y + j - n) ≡ true)
 parts n s x y i j h = let p = and-parts (leb n (x + i)) _ h in let q = and-parts (leb n (y + j)) _ (p .1) in (leb-true n (x + i) (p .0), leb-true n (y + j) (q .0), q .1)
 
-each : (n : ℕ) (s : Squares) (x y : ℕ) → surrounded n s x y ≡ true → (i j : ℕ) → i < 2 * n + 1 → j < 2 * n + 1 → held n s x y i j ≡ true
+pub each : (n : ℕ) (s : Squares) (x y : ℕ) → surrounded n s x y ≡ true → (i j : ℕ) → i < 2 * n + 1 → j < 2 * n + 1 → held n s x y i j ≡ true
 unfolding surrounded
 each n s x y h i j k l = all-true (2 * n + 1) (λ j. held n s x y i j) (all-true (2 * n + 1) (λ i. all-of (2 * n + 1) (λ j. held n s x y i j)) h i k) j l
 
-all : (n : ℕ) (s : Squares) (x y : ℕ) → ((i j : ℕ) → i < 2 * n + 1 → j < 2 * n + 1 → held n s x y i j ≡ true) → surrounded n s x y ≡ true
+pub all : (n : ℕ) (s : Squares) (x y : ℕ) → ((i j : ℕ) → i < 2 * n + 1 → j < 2 * n + 1 → held n s x y i j ≡ true) → surrounded n s x y ≡ true
 unfolding surrounded
 all n s x y h = true-all (2 * n + 1) (λ i. all-of (2 * n + 1) (λ j. held n s x y i j)) (λ i k. true-all (2 * n + 1) (λ j. held n s x y i j) (λ j l. h i j k l))
 

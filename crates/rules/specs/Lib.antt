@@ -1,3 +1,4 @@
+-- The definitions that the contracts cite.
 pub mod Rules
 pub mod Numbers
 pub mod Terms
@@ -5,3 +6,4 @@ pub mod Tests
 pub mod Layers
 pub mod Values
 pub mod Judged
+pub mod Laws

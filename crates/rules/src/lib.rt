@@ -3,6 +3,7 @@ pub mod broken;
 pub mod evaluate;
 pub mod judge;
 pub mod judges;
+pub mod law;
 pub mod layers;
 pub mod need;
 pub mod read;

@@ -2,3 +2,7 @@
 pub mod Readings
 pub mod Sheets
 pub mod Plans
+pub mod Denotes
+pub mod Cells
+pub mod Ended
+pub mod Scenes

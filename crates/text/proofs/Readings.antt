@@ -1,6 +1,6 @@
 -- Words accepted one after another. Assumes nothing.
-use mathlib.Core.Path.{_≡_, refl, sym, ap, _∙_}
-use mathlib.Core.List.{List, [], _∷_, map}
+use mathlib.Core.Path.{_≡_, sym, ap, _∙_}
+use mathlib.Core.List.{List, _∷_, map}
 use Prim.Native.Nat.{ℕ, _+_, _≤_, _<_}
 use native.Mathlib.Omega.{arith}
 use lib.ListN.{length, getD, drop}
@@ -11,7 +11,8 @@ use Rattle.layout.specs.declared.refusal.Fault.{Fault}
 use Rattle.layout.specs.declared.refusal.Fault.the-variants.{Refused, Memory}
 use Rattle.words.specs.Words.{Token, token-at}
 use Rattle.words.specs.declared.word.Word.{Word}
-use Rattle.text.specs.Readings.{State, start, accept, and-then, read, Follows, Read}
+use Rattle.words.specs.Steps.{and-then}
+use Rattle.text.specs.Readings.{State, start, accept, read, Follows, Read}
 
 abbrev after : Result State ℕ → List Token → Result State ℕ
 after r ts = and-then r (λ z. read z ts)

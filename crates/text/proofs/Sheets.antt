@@ -6,7 +6,7 @@ use native.Mathlib.Omega.{arith}
 use lib.ListN.{length, getD, drop}
 use Rattle.std.proofs.shelf.Lists.{at-drop-more, at-drop-all}
 use Rattle.std.specs.declared.option.Option.{Option}
-use Rattle.text.specs.Sheets.{Nodes, Joined, added, joined, joined-to}
+use Rattle.text.specs.Sheets.{Nodes, added, joined, joined-to}
 
 pub join-first : (s : Nodes) (ps : List ℕ) (l : Option ℕ) → 0 < length ps → joined-to s (getD ps 0 0) (drop 1 ps) l ≡ joined s ps l
 join-first s [] l h = absurd (omega arith)

@@ -16,7 +16,8 @@ use Rattle.layout.specs.declared.refusal.Fault.the-variants.{Refused, Memory}
 use Rattle.layout.specs.declared.refusal.Refusal.the-variants.{Text}
 use Rattle.words.specs.Chains.{place-of as place-among}
 use Rattle.words.specs.Names.{names-of}
-use Rattle.text.specs.Readings.{State, and-then, by-some, said-in}
+use Rattle.words.specs.Steps.{by-some, and-then}
+use Rattle.text.specs.Readings.{State, said-in}
 use Rattle.text.specs.Plans.{blank, all-said, finished}
 use Rattle.text.specs.declared.plan.Pin.{Pin}
 use Rattle.text.specs.declared.«layout_text».LayoutText.{LayoutText}

@@ -4,3 +4,4 @@ pub mod Readings
 pub mod Sheets
 pub mod Plans
 pub mod LayoutTexts
+pub mod Scenes

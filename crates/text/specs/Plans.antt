@@ -1,5 +1,5 @@
 -- Statements drawn as nodes: which numbers a layout text means. Assumes nothing: these are definitions.
-use mathlib.Core.Bool.{Bool, true, false, _&&_, not, cond}
+use mathlib.Core.Bool.{not, cond}
 use mathlib.Core.List.{List, [], _∷_, _++_}
 use Prim.Native.Nat.{ℕ, suc}
 use lib.Dec.{eqb}
@@ -7,7 +7,7 @@ use lib.ListN.{length, getD}
 use Rattle.std.specs.Of.Vec.{vec-items}
 use Rattle.std.specs.declared.option.Option.{Option}
 use Rattle.std.specs.declared.option.Option.the-variants.{Some, None}
-use Rattle.text.specs.Readings.{by-some}
+use Rattle.words.specs.Steps.{by-some}
 use Rattle.text.specs.Sheets.{Nodes, added, joined, sheet-of}
 use Rattle.text.specs.declared.statement.Statement.{Statement}
 use Rattle.text.specs.declared.statement.Statement.the-variants as statement

@@ -1,11 +1,11 @@
 -- A layout text, word by word: which statements it says, or which word can't stand where it stands. Assumes nothing: these are definitions.
 use mathlib.Core.Path.{_≡_}
-use mathlib.Core.Bool.{Bool, true, false, not, _&&_, _||_, cond}
+use mathlib.Core.Bool.{Bool, true, false, not, _||_, cond}
 use mathlib.Core.List.{List, [], _∷_, _++_}
 use Prim.Native.Nat.{ℕ, _+_}
 use lib.Chars.{codes}
-use lib.Dec.{ltb, eqb}
-use lib.ListN.{length, getD, drop}
+use lib.Dec.{ltb}
+use lib.ListN.{length}
 use Rattle.std.specs.Of.Vec.{vec-items}
 use Rattle.std.specs.Options.{isSome}
 use Rattle.std.specs.shelf.Text.{sameBytes}
@@ -23,12 +23,12 @@ use Rattle.words.specs.declared.word.Marks.the-variants.{Braces}
 use Rattle.words.specs.Names.{names-of}
 use Rattle.words.specs.Chains.{place-of as place-among}
 use Rattle.words.specs.Numbers.{number-in}
+use Rattle.words.specs.Steps.{by-some, and-then}
 use Rattle.text.specs.Keywords.{keyword-of, slots, slot-at, turns, statement-of}
 use Rattle.text.specs.declared.keyword.Keyword.{Keyword}
 use Rattle.text.specs.declared.keyword.Slot.{Slot}
 use Rattle.text.specs.declared.keyword.Keyword.the-variants as key
 use Rattle.text.specs.declared.keyword.Slot.the-variants as slot
-use Rattle.text.specs.declared.statement.Statement.{Statement}
 use Rattle.text.specs.declared.statement.Statement.the-variants as statement
 use Rattle.text.specs.declared.statement.Said.{Said}
 use Rattle.text.specs.declared.reader.Reader.{Reader}
@@ -62,14 +62,6 @@ may-begin s key.Row = true
 may-begin s key.Column = true
 may-begin s key.Pin = not (inside s)
 
-abbrev pub by-some : {A B : Type 0} → Option A → B → (A → B) → B
-by-some None b f = b
-by-some (Some a) b f = f a
-
-abbrev pub and-then : {A B E : Type 0} → Result A E → (A → Result B E) → Result B E
-and-then (Ok a) f = f a
-and-then (Err e) f = Err e
-
 abbrev pub brace : List ℕ → Bool
 brace w = sameBytes w (codes "{") || sameBytes w (codes "}")
 
@@ -89,11 +81,11 @@ value-of s slot.Open w = cond (sameBytes w (codes "{")) (Some 0) None
 abbrev pub state-of : Reader → State
 state-of r = record { said = vec-items (r .said); cells = names-of (r .cells); pins = names-of (r .pins); closed = r .closed; turning = r .turning; begun = r .begun; line = r .line; values = vec-items (r .values) }
 
--- a statement ends once each of its words has a value; the end of a cell closes all cells, since they are not nested
+-- how many cells have ended after a statement
 abbrev pub closed-by : State → Keyword → ℕ
 closed-by s key.Box = s .closed
 closed-by s key.Cell = s .closed
-closed-by s key.Close = length (s .cells)
+closed-by s key.Close = cond (inside s) (s .closed + 1) (s .closed)
 closed-by s key.Put = s .closed
 closed-by s key.Turned = s .closed
 closed-by s key.Mirrored = s .closed
@@ -101,6 +93,7 @@ closed-by s key.Row = s .closed
 closed-by s key.Column = s .closed
 closed-by s key.Pin = s .closed
 
+-- a statement ends once each of its words has a value
 abbrev pub completed : State → Keyword → State
 completed s k = record {
   said = s .said ++ record { statement = statement-of k (s .values); line = s .line } ∷ [];

@@ -1,6 +1,9 @@
 // Layout texts, read into the numbers that the layout entries take.
 ghost use mathlib.Core.Path.{_≡_};
+ghost use Rattle.std.specs.Of.Vec.{vec-items};
+ghost use Rattle.std.specs.Vec.{made};
 ghost use Rattle.text.specs.LayoutTexts.{Layout-read, meaning-of, pin-named};
+ghost use Rattle.text.specs.Scenes.{Draws};
 use super::plan::Pin;
 use super::plan::Plan;
 use super::plan::draw_all;
@@ -35,7 +38,8 @@ impl LayoutText {
 
 /// Reads a layout text.
 pub fn read_layout(heap: Global, text: &[u8]) -> Result<LayoutText, Fault>
-    ensures { λ r. ⌜ Layout-read (now (text .entry)) r ⌝ }
+    ensures read { λ r. ⌜ Layout-read (now (text .entry)) r ⌝ }
+    ensures draws { λ r. ⌜ made r (λ t. Draws (now (text .entry)) (vec-items (t .nodes))) ⌝ }
 {
     let reader = read_statements(heap, text)?;
     let plan = draw_all(heap, reader.said.as_slice())?;

@@ -1,6 +1,5 @@
 // Statements drawn as nodes.
 ghost use mathlib.Core.Path.{_≡_};
-ghost use mathlib.Core.List.{[], _∷_};
 ghost use lib.ListN.{getD};
 ghost use Rattle.std.specs.Vec.{made};
 ghost use Rattle.text.specs.Plans.{blank, placed, drawn, moved-on, turned, closed, begun, said, all-said, last, finished, plan-of};

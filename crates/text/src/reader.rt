@@ -1,7 +1,7 @@
 // Reads the words of a layout text, one after another, into statements.
 ghost use mathlib.Core.Path.{_≡_};
 ghost use mathlib.Core.Bool.{cond};
-ghost use mathlib.Core.List.{[], map};
+ghost use mathlib.Core.List.{map};
 ghost use Rattle.std.specs.Vec.{made};
 ghost use Rattle.std.specs.shelf.Lists.{All};
 ghost use Rattle.std.specs.shelf.Text.{sameBytes};
@@ -13,10 +13,8 @@ use super::keyword::Keyword;
 use super::keyword::Slot;
 use super::keyword::keyword_of;
 use super::statement::Said;
-use super::statement::Statement;
 use layout::refusal::Fault;
 use layout::refusal::FaultFromAlloc;
-use layout::refusal::FaultFromRefusal;
 use layout::refusal::FaultFromRefused;
 use layout::refusal::Refusal;
 use std::alloc::AllocError;
@@ -122,7 +120,7 @@ impl Reader {
         ensures { λ r. ⌜ r ≡ closed-by (state-of (now (self .entry))) keyword ⌝ }
     {
         match keyword {
-            Keyword::Close => self.cells.len(),
+            Keyword::Close if self.closed < self.cells.len() => self.closed + 1,
             _ => self.closed,
         }
     }

@@ -1,6 +1,8 @@
 // Texts that are read, and texts that are turned away.
-use super::layout_text::LayoutText;
 use super::layout_text::read_layout;
+use super::plan::Pin;
+use super::plan::PinDebug;
+use super::plan::PinPartialEq;
 use layout::refusal::Fault;
 use layout::refusal::FaultDebug;
 use layout::refusal::FaultPartialEq;
@@ -122,4 +124,20 @@ fn words_that_cannot_stand(rt: LibcRuntime) -> Result<(), Fail> {
     fails(heap, b"turned 4", 0)?;
     fails(heap, b"box 100000000000000000000000000000 0 0 0 0", 0)?;
     fails(heap, b"pin a 1 0 0\npin a 1 2 2", 1)
+}
+
+#[test]
+fn lines_and_pins(rt: LibcRuntime) -> Result<(), Fail> {
+    let text =
+        b"pin \xff 1 2 3\ncell a { box 1 0 0 1 1\nbox 2 0 0 1 1 }\nput a\nat 1 1 pin b 4 5 6 row 2 2 a";
+    let read = read_layout(rt.alloc(), text)?;
+    let lines = [Some(1), Some(2), Some(1), Some(3), Some(4), None];
+    check(read.lines.as_slice() == &lines)?;
+    let pin = Pin {
+        layer: 1,
+        x: 2,
+        y: 3,
+    };
+    check_eq(read.pin(b"\xff"), Some(pin))?;
+    check_eq(read.pin(b"a"), None)
 }

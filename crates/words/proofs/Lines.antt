@@ -1,15 +1,15 @@
 -- Newlines counted byte by byte. Assumes nothing.
-use mathlib.Core.Path.{_≡_, refl, sym, ap, _∙_}
+use mathlib.Core.Path.{_≡_, refl, ap, _∙_}
 use mathlib.Core.Bool.{cond}
 use mathlib.Core.List.{List, [], _∷_, _++_}
 use Prim.Native.Nat.{ℕ, suc, _+_, _-_, _≤_, _<_}
 use native.Mathlib.Omega.{arith}
 use lib.Dec.{eqb}
-use mathlib.Core.Logic.{_⊎_, inl, inr}
+use mathlib.Core.Logic.{inl, inr}
 use lib.ListN.{length, getD, take, drop}
 use Rattle.std.proofs.shelf.Lists.{take-more, length-take}
 use Rattle.std.proofs.shelf.Tests.{eq-eqb, ne-eqb, cases-bool}
-use Rattle.words.specs.Lines.{newlines, last-line, onto-first, lines-of}
+use Rattle.words.specs.Lines.{newlines, onto-first, lines-of}
 use Rattle.words.specs.Words.{rest-of-line}
 
 pub newlines-push : (bs : List ℕ) (b : ℕ) → newlines (bs ++ b ∷ []) ≡ newlines bs + cond (eqb b 10) 1 0

@@ -1,17 +1,16 @@
 -- Names in chains: how one is found, and how one is added. Assumes nothing.
 use mathlib.Core.Path.{_≡_, refl, sym, ap, subst, _∙_}
-use mathlib.Core.Bool.{Bool, true, false, cond}
+use mathlib.Core.Bool.{true, false, cond}
 use mathlib.Core.List.{List, [], _∷_, _++_, map}
-use mathlib.Core.Logic.{_⊎_, inl, inr}
+use mathlib.Core.Logic.{inl, inr}
 use Prim.Native.Nat.{ℕ, zero, suc, _+_, _*_, _%_, _-_, _≤_, _<_}
 use native.Mathlib.Omega.{arith}
 use lib.Dec.{eqb}
 use lib.ListN.{length, getD, set, drop, replicate}
-use Rattle.std.proofs.shelf.Lists.{at-drop-more, at-drop-all, getD-append-left, getD-push, length-map, length-push, map-push, getD-set-same, getD-set-other, getD-map, getD-replicate}
-use Rattle.std.proofs.shelf.Tests.{cases-bool, cases-eq, both-ways, eqb-true, eqb-false, eq-eqb, ne-eqb, false≢true}
+use Rattle.std.proofs.shelf.Lists.{at-drop-more, at-drop-all, getD-append-left, getD-push, length-map, length-push, map-push, getD-set-same, getD-set-other, getD-replicate}
+use Rattle.std.proofs.shelf.Tests.{cases-bool, cases-eq, eq-eqb, ne-eqb}
 use Rattle.std.proofs.shelf.Equals.{sameBytes-decides}
 use Rattle.std.specs.shelf.Text.{sameBytes}
-use Rattle.std.specs.declared.option.Option.{Option}
 use Rattle.std.specs.declared.option.Option.the-variants.{Some, None}
 use Rattle.words.specs.Chains.{place-below, place-of, chains, hashed, latest, name-of, before-of, Heads, Befores}
 use Rattle.words.specs.declared.name.Entry.{Entry}

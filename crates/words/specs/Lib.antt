@@ -4,3 +4,4 @@ pub mod Lines
 pub mod Numbers
 pub mod Chains
 pub mod Names
+pub mod Steps

@@ -1,13 +1,12 @@
 // A text cut into words.
 ghost use mathlib.Core.Path.{_≡_};
-ghost use mathlib.Core.List.{map};
 ghost use Prim.Native.Nat.{_+_, _<_, _≤_};
 ghost use lib.ListN.{length, drop};
 ghost use Rattle.std.specs.Of.Vec.{vec-items};
 ghost use Rattle.std.specs.Vec.{made};
 ghost use Rattle.std.specs.shelf.Lists.{between};
 ghost use Rattle.std.specs.shelf.Text.{sameBytes};
-ghost use Rattle.words.specs.Words.{is-mark, kind-of, letters, rest-of-line, words-of, Cut};
+ghost use Rattle.words.specs.Words.{is-mark, kind-of, letters, rest-of-line, Cut};
 use std::alloc::AllocError;
 use std::alloc::Global;
 

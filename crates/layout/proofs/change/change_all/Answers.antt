@@ -1,3 +1,4 @@
+-- What `change_all` needs beyond what the search finds.
 use mathlib.Core.Path.{sym, subst}
 use native.Mathlib.Omega.{arith}
 use Prim.Native.Nat.{_^_}

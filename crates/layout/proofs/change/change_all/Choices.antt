@@ -1,3 +1,4 @@
+-- What `change_all` keeps true as it goes round, and why it ends.
 use mathlib.Core.Path.{_≡_}
 use mathlib.Core.List.{map, _++_}
 use lib.ListN.{take, drop}

@@ -1,6 +1,6 @@
+-- What `change_tail` needs beyond what the search finds.
 use mathlib.Core.Path.{sym, ap, subst, _∙_}
 use mathlib.Core.List.{List}
-use native.Mathlib.Omega.{arith}
 use Prim.Native.Nat.{_^_}
 use lib.ListN.{drop}
 use Rattle.std.proofs.shelf.Lists.{take-rest}

@@ -1,7 +1,7 @@
+-- What `copy_once` needs beyond what the search finds.
 use mathlib.Core.Path.{sym, ap, subst, _∙_}
 use native.Mathlib.Omega.{arith}
-use Prim.Native.Nat.{_^_, _<_}
-use lib.ListN.{length}
+use Prim.Native.Nat.{_^_}
 use Rattle.std.specs.Of.Vec.{vec-items}
 use Rattle.layout.specs.Rects.{Within, move-rect}
 use Rattle.layout.proofs.Changes.{copied-at, copied-more}

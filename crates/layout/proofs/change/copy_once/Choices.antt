@@ -1,3 +1,4 @@
+-- What `copy_once` keeps true as it goes round, and why it ends.
 use mathlib.Core.Path.{_≡_}
 use mathlib.Core.List.{map, _++_}
 use Prim.Native.Nat.{_≤_}

@@ -1,8 +1,8 @@
-use mathlib.Core.Path.{_≡_, sym, ap, subst, _∙_}
+-- What `copy_tail` needs beyond what the search finds.
+use mathlib.Core.Path.{sym, subst, _∙_}
 use native.Mathlib.Omega.{arith}
 use native.Mathlib.Nat.{mul-le-mul-right}
-use Prim.Native.Nat.{_^_, _<_, _≤_}
-use lib.ListN.{length}
+use Prim.Native.Nat.{_^_, _≤_}
 use Rattle.std.specs.Of.Vec.{vec-items}
 use Rattle.layout.specs.Rects.{Within}
 use Rattle.layout.proofs.Copies.{copied-none, copied-long, copied-same, copied-again}

@@ -1,3 +1,4 @@
+-- What `copy_tail` keeps true as it goes round, and why it ends.
 use mathlib.Core.Path.{_≡_}
 use mathlib.Core.List.{_++_}
 use lib.ListN.{take, drop}

@@ -1,9 +1,10 @@
-use mathlib.Core.Path.{_≡_, refl, sym, ap, subst, _∙_}
-use Prim.Native.Nat.{ℕ, _+_, _-_, _*_, _/_, _<_, _≤_}
+-- What `check_layout` needs beyond what the search finds.
+use mathlib.Core.Path.{_≡_, refl, ap, subst}
+use Prim.Native.Nat.{ℕ, _+_, _-_, _/_}
 use native.Mathlib.Omega.{arith}
 use lib.ListN.{length, getD}
 use Rattle.layout.specs.Numbers.{sixes, boxes}
-use Rattle.layout.specs.Pieces.{Sound, piece}
+use Rattle.layout.specs.Pieces.{piece}
 use Rattle.layout.proofs.Checks.{shaped, sound-from, refused-1, refused-2a, refused-2b, refused-3, refused-0}
 use Rattle.layout.proofs.check.check_layout.Needs as need
 

@@ -1,3 +1,4 @@
+-- What `first_above` needs beyond what the search finds.
 use native.Mathlib.Omega.{arith}
 use Rattle.layout.specs.Limits.{max-number}
 use Rattle.layout.proofs.Checks.{all-from}

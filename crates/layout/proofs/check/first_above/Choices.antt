@@ -1,3 +1,4 @@
+-- What `first_above` keeps true as it goes round, and why it ends.
 use Prim.Native.Nat.{ℕ, _<_, _≤_}
 use lib.ListN.{getD}
 use Rattle.layout.specs.Limits.{max-number}

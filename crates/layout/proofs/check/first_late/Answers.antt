@@ -1,3 +1,4 @@
+-- What `first_late` needs beyond what the search finds.
 use native.Mathlib.Omega.{arith}
 use Rattle.layout.proofs.Checks.{earlier-from}
 use Rattle.layout.proofs.check.first_late.Needs as need

@@ -1,3 +1,4 @@
+-- What `first_late` keeps true as it goes round, and why it ends.
 use mathlib.Core.Path.{_≡_}
 use mathlib.Core.Bool.{true}
 use Prim.Native.Nat.{ℕ, _<_}

@@ -1,3 +1,4 @@
+-- What `count_boxes` keeps true as it goes round, and why it ends.
 use mathlib.Core.Path.{_≡_}
 use lib.ListN.{length}
 use Rattle.layout.specs.Limits.{max-nodes}

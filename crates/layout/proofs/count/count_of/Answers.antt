@@ -1,3 +1,4 @@
+-- What `count_of` needs beyond what the search finds.
 use mathlib.Core.Path.{refl}
 use Rattle.layout.proofs.Counts.{tally}
 use Rattle.layout.proofs.count.count_of.Needs as need

@@ -1,3 +1,4 @@
+-- What `laws_stand` needs beyond what the search finds.
 use Rattle.layout.proofs.Laws.{box-moved, quarters, mirror-twice}
 use Rattle.layout.proofs.law.laws_stand.Needs as need
 

@@ -1,4 +1,4 @@
-use native.Mathlib.Omega.{arith}
+-- What `sound_node` needs beyond what the search finds.
 use Rattle.std.proofs.shelf.Tests.{both-ways}
 use Rattle.layout.proofs.Pieces.{earlier-at}
 use Rattle.layout.proofs.node.sound_node.Needs as need

@@ -1,3 +1,4 @@
+-- What `covers` needs beyond what the search finds.
 use native.Mathlib.Omega.{arith}
 use Rattle.layout.proofs.Rects.{covered-hit, covered-next, covered-end}
 use Rattle.layout.proofs.rect.covers.Needs as need

@@ -1,3 +1,4 @@
+-- What `covers` keeps true as it goes round, and why it ends.
 use mathlib.Core.Path.{_≡_}
 use lib.ListN.{drop}
 use Rattle.layout.specs.Rects.{covered}

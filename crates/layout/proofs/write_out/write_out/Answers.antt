@@ -1,12 +1,13 @@
+-- What `write_out` needs beyond what the search finds.
 use mathlib.Core.Path.{_≡_, sym, ap, subst, _∙_}
 use mathlib.Core.List.{List, _++_}
-use Prim.Native.Nat.{ℕ, _+_, _-_, _*_, _/_, _^_, _<_, _≤_}
+use Prim.Native.Nat.{_+_, _-_, _/_, _^_}
 use native.Mathlib.Omega.{arith}
 use lib.ListN.{length}
 use Rattle.std.specs.Of.Vec.{vec-items}
 use Rattle.std.specs.shelf.Lists.{All}
 use Rattle.layout.specs.Numbers.{sixes, boxes}
-use Rattle.layout.specs.Pieces.{Sound, piece}
+use Rattle.layout.specs.Pieces.{piece}
 use Rattle.layout.specs.Rects.{rects, covered, Within}
 use Rattle.layout.specs.declared.rect.Rect.{Rect}
 use Rattle.layout.proofs.Sizes.{rects-length}

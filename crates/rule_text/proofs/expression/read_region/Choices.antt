@@ -1,10 +1,10 @@
+-- What `read_region` keeps true as it goes round, and why it ends.
 use mathlib.Core.Path.{_≡_}
 use mathlib.Core.List.{map}
 use Prim.Native.Nat.{_-_}
 use lib.ListN.{length, drop}
-use Rattle.std.specs.Of.Vec.{vec-items}
 use Rattle.words.specs.Words.{token-at}
-use Rattle.rule_text.specs.Expressions.{region-from, region-in, expression-of}
+use Rattle.rule_text.specs.Expressions.{region-from, expression-of}
 use Rattle.rule_text.proofs.expression.read_region.Given as given
 
 abbrev pub Inv-loop-at : given.InvT-loop-at

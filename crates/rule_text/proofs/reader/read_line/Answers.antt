@@ -1,5 +1,6 @@
-use mathlib.Core.Path.{_≡_, refl, sym, ap, subst, _∙_}
-use mathlib.Core.List.{List, [], _∷_, _++_, map}
+-- What `read_line` needs beyond what the search finds.
+use mathlib.Core.Path.{refl, sym, ap, _∙_}
+use mathlib.Core.List.{map}
 use native.Mathlib.Omega.{arith}
 use Rattle.std.proofs.shelf.Lists.{map-push}
 use Rattle.std.specs.Of.Vec.{vec-items}

@@ -1,11 +1,12 @@
-use mathlib.Core.Path.{_≡_, refl, sym, ap, subst, _∙_}
-use mathlib.Core.List.{List, [], map}
+-- What `read_rules` needs beyond what the search finds.
+use mathlib.Core.Path.{sym, ap, subst}
+use mathlib.Core.List.{List, map}
 use native.Mathlib.Omega.{arith}
 use Rattle.std.proofs.shelf.Results.{err-from-errBy}
 use Rattle.std.specs.Of.Vec.{vec-items}
 use Rattle.rule_text.specs.Rules.{rule-of}
 use Rattle.rule_text.specs.declared.rule.RuleText.{RuleText}
-use Rattle.rule_text.proofs.RuleTexts.{Listing, list-none, list-next, list-last, list-stopped, end-in}
+use Rattle.rule_text.proofs.RuleTexts.{Listing, list-none, list-next, list-last, list-stopped}
 use Rattle.rule_text.proofs.reader.read_rules.Needs as need
 
 pub loop-rules-holds : need.loop-rules-holds

@@ -1,3 +1,4 @@
+-- What `read_rules` keeps true as it goes round, and why it ends.
 use mathlib.Core.List.{map}
 use Prim.Native.Nat.{_-_}
 use lib.ListN.{length}

@@ -1,3 +1,4 @@
+-- What `message_at` needs beyond what the search finds.
 use mathlib.Core.Path.{_∙_}
 use native.Mathlib.Omega.{arith}
 use Rattle.rule_text.proofs.Rules.{message-none, message-some}

@@ -1,3 +1,4 @@
+-- What `number_at` needs beyond what the search finds.
 use native.Mathlib.Omega.{arith}
 use Rattle.rule_text.proofs.Rules.{number-none, number-some, number-bad}
 use Rattle.rule_text.proofs.rule.number_at.Needs as need

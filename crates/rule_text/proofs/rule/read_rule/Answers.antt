@@ -1,3 +1,4 @@
+-- What `read_rule` needs beyond what the search finds.
 use native.Mathlib.Omega.{arith}
 use Rattle.rule_text.proofs.Rules.{no-rule, rule-some, rule-none}
 use Rattle.rule_text.proofs.rule.read_rule.Needs as need

@@ -1,4 +1,5 @@
-use mathlib.Core.Path.{_≡_, ap, _∙_}
+-- What `root_of` needs beyond what the search finds.
+use mathlib.Core.Path.{ap, _∙_}
 use lib.ListN.{drop}
 use Rattle.std.proofs.shelf.Lists.{take-rest}
 use Rattle.rule_text.proofs.rule.root_of.Needs as need

@@ -1,3 +1,4 @@
+-- What `value_at` needs beyond what the search finds.
 use mathlib.Core.Path.{sym}
 use Rattle.std.proofs.shelf.Lists.{getD-past}
 use Rattle.text.proofs.keyword.value_at.Needs as need

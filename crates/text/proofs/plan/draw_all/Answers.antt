@@ -1,6 +1,7 @@
-use mathlib.Core.Path.{_≡_, refl, sym, ap, _∙_}
+-- What `draw_all` needs beyond what the search finds.
+use mathlib.Core.Path.{ap, _∙_}
 use native.Mathlib.Omega.{arith}
-use Rattle.text.specs.Plans.{blank, all-said, finished, plan-of}
+use Rattle.text.specs.Plans.{all-said, finished, plan-of}
 use Rattle.text.proofs.Plans.{say-next, say-all}
 use Rattle.text.proofs.plan.draw_all.Needs as need
 

@@ -1,3 +1,4 @@
+-- What `draw_all` keeps true as it goes round, and why it ends.
 use mathlib.Core.Path.{_≡_}
 use lib.ListN.{drop}
 use Rattle.text.specs.Plans.{blank, all-said, plan-of}

@@ -1,3 +1,4 @@
+-- What `read` keeps true as it goes round, and why it ends.
 use mathlib.Core.Path.{_≡_}
 use mathlib.Core.List.{map}
 use lib.ListN.{drop}

@@ -1,7 +1,8 @@
-use mathlib.Core.Path.{_≡_, refl, sym, ap, _∙_}
+-- What `last_line` needs beyond what the search finds.
+use mathlib.Core.Path.{refl, ap, _∙_}
 use Prim.Native.Nat.{_-_}
 use native.Mathlib.Omega.{arith}
-use lib.ListN.{length, take}
+use lib.ListN.{take}
 use Rattle.words.specs.Lines.{newlines}
 use Rattle.words.proofs.Lines.{newlines-hit, newlines-miss}
 use Rattle.words.proofs.line.last_line.Needs as need

@@ -1,7 +1,8 @@
-use mathlib.Core.Path.{_≡_, refl, sym, ap, subst, _∙_}
+-- What `number` needs beyond what the search finds.
+use mathlib.Core.Path.{_≡_, sym, subst, _∙_}
 use native.Mathlib.Omega.{arith}
-use Prim.Native.Nat.{_+_, _≤_}
-use lib.ListN.{length, getD, drop}
+use Prim.Native.Nat.{_+_}
+use lib.ListN.{length, drop}
 use Rattle.std.proofs.shelf.Tests.{eqb-false}
 use Rattle.words.specs.Numbers.{number-in}
 use Rattle.words.proofs.Numbers.{number-after, starts, bad-digit, next-digit, past-limit, last-digit}

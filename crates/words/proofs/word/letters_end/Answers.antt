@@ -1,3 +1,4 @@
+-- What `letters_end` needs beyond what the search finds.
 use native.Mathlib.Omega.{arith}
 use Rattle.words.proofs.Words.{letter-more, letter-stop, letter-none}
 use Rattle.words.proofs.word.letters_end.Needs as need

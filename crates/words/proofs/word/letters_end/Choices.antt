@@ -1,3 +1,4 @@
+-- What `letters_end` keeps true as it goes round, and why it ends.
 use mathlib.Core.Path.{_≡_}
 use Prim.Native.Nat.{_+_, _-_, _≤_}
 use lib.ListN.{length, drop}

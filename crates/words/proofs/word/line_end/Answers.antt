@@ -1,3 +1,4 @@
+-- What `line_end` needs beyond what the search finds.
 use native.Mathlib.Omega.{arith}
 use Rattle.words.proofs.Words.{line-more, line-stop, line-none}
 use Rattle.words.proofs.word.line_end.Needs as need

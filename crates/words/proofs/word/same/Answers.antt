@@ -1,3 +1,4 @@
+-- What `same` needs beyond what the search finds.
 use borrow.Author.Needs.{needs}
 use Rattle.std.proofs.shelf.Equals.{matches-decides, sameBytes-decides}
 use Rattle.words.proofs.word.same.Needs as need

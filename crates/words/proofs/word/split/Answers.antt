@@ -1,4 +1,5 @@
-use mathlib.Core.Path.{_≡_, sym, subst}
+-- What `split` needs beyond what the search finds.
+use mathlib.Core.Path.{sym, subst}
 use mathlib.Core.List.{List}
 use Prim.Native.Nat.{_+_}
 use native.Mathlib.Omega.{arith}

@@ -1,3 +1,4 @@
+-- What `split` keeps true as it goes round, and why it ends.
 use Prim.Native.Nat.{_-_}
 use lib.ListN.{length}
 use Rattle.std.specs.Of.Vec.{vec-items}

@@ -1,3 +1,4 @@
+-- What `contains` needs beyond what the search finds.
 use native.Mathlib.Omega.{arith}
 use Rattle.std.proofs.shelf.Ways.{tells}
 use Rattle.layout.specs.Rects.{in-rect}

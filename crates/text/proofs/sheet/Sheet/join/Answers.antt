@@ -1,9 +1,10 @@
-use mathlib.Core.Path.{_≡_, refl, sym, ap, subst, _∙_}
+-- What `join` needs beyond what the search finds.
+use mathlib.Core.Path.{sym}
 use native.Mathlib.Omega.{arith}
 use lib.ListN.{length}
 use Rattle.std.proofs.shelf.Tests.{eqb-false}
 use Rattle.text.specs.Sheets.{sheet-of}
-use Rattle.text.proofs.Sheets.{join-first, join-none, join-next, join-all}
+use Rattle.text.proofs.Sheets.{join-first, join-next, join-all}
 use Rattle.text.proofs.sheet.Sheet.join.Needs as need
 
 pub loop-i-holds : need.loop-i-holds

@@ -1,6 +1,7 @@
-use mathlib.Core.Path.{_≡_, refl, sym, ap, subst, _∙_}
-use mathlib.Core.List.{List, [], map}
-use Prim.Native.Nat.{ℕ, suc, _-_, _<_, _≤_}
+-- What `find` needs beyond what the search finds.
+use mathlib.Core.Path.{sym, ap, _∙_}
+use mathlib.Core.List.{[], map}
+use Prim.Native.Nat.{_-_, _<_}
 use native.Mathlib.Omega.{arith}
 use lib.ListN.{length, getD}
 use Rattle.std.proofs.shelf.Lists.{length-map}
@@ -8,7 +9,7 @@ use Rattle.std.specs.Of.Vec.{vec-items}
 use Rattle.std.specs.shelf.Text.{sameBytes}
 use Rattle.words.specs.Chains.{name-of, latest, hashed}
 use Rattle.words.specs.Names.{names-of}
-use Rattle.words.proofs.Names.{Seeking, latest-low, seek-first, seek-found, seek-next, seek-none}
+use Rattle.words.proofs.Names.{latest-low, seek-first, seek-found, seek-next, seek-none}
 use Rattle.words.proofs.Tables.{read-name, read-before, read-head}
 use Rattle.words.proofs.name.Names.find.Needs as need
 

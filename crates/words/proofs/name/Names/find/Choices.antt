@@ -1,3 +1,4 @@
+-- What `find` keeps true as it goes round, and why it ends.
 use Rattle.words.specs.Names.{names-of}
 use Rattle.words.proofs.Names.{Seeking}
 use Rattle.words.proofs.name.Names.find.Given as given

@@ -1,7 +1,5 @@
-use mathlib.Core.Path.{_≡_, refl, sym, ap, subst, _∙_}
-use mathlib.Core.List.{map}
-use lib.ListN.{length}
-use Rattle.words.specs.Chains.{name-of, chains}
+-- What `new` needs beyond what the search finds.
+use Rattle.words.specs.Chains.{chains}
 use Rattle.words.proofs.Names.{heads-none, befores-none}
 use Rattle.words.proofs.name.Names.new.Needs as need
 

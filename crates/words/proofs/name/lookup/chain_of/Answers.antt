@@ -1,3 +1,4 @@
+-- What `chain_of` needs beyond what the search finds.
 use mathlib.Core.Path.{_≡_, ap, _∙_}
 use Prim.Native.Nat.{ℕ, _+_, _*_, _%_}
 use native.Mathlib.Omega.{arith}

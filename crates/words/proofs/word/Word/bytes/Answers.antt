@@ -1,5 +1,4 @@
-use mathlib.Core.Path.{_≡_, subst, sym, ap, _∙_}
-use native.Mathlib.Omega.{arith}
+-- What `bytes` needs beyond what the search finds.
 use Rattle.words.proofs.Words.{between-clipped}
 use Rattle.words.proofs.word.Word.bytes.Needs as need
 
