@@ -51,6 +51,148 @@ const MIRRORED: [u64; 30] = [
     0,
 ];
 
+// A narrow box below and before a narrow one above: the first square goes by rows, not by boxes.
+const LOWER_FIRST: [u64; 18] = [1, 0, 0, 9, 1, 5, 1, 0, 7, 2, 1, 5, 2, 0, 1, 0, 0, 0];
+
+// A cell of two boxes that touch in a corner, turned within its side, three hundred times in a row.
+const TURNED: [u64; 30] = [
+    1,
+    0,
+    0,
+    0,
+    3,
+    3,
+    1,
+    0,
+    3,
+    3,
+    1,
+    1,
+    2,
+    0,
+    1,
+    0,
+    0,
+    0,
+    4,
+    4,
+    2,
+    0,
+    0,
+    0,
+    6,
+    300,
+    10,
+    3,
+    0,
+    0,
+];
+
+// Wire on two layers, and a box of layer 2, which joins them, beside both.
+const BESIDE: [u64; 30] = [
+    1,
+    0,
+    0,
+    0,
+    2,
+    2,
+    1,
+    1,
+    0,
+    0,
+    2,
+    2,
+    1,
+    2,
+    2,
+    0,
+    1,
+    1,
+    2,
+    0,
+    1,
+    0,
+    0,
+    0,
+    2,
+    2,
+    3,
+    0,
+    0,
+    0,
+];
+
+// A box of layer 2 that lies over layer 0 in one place and over layer 1 in another.
+const APART: [u64; 30] = [
+    1,
+    0,
+    0,
+    0,
+    2,
+    1,
+    1,
+    1,
+    2,
+    0,
+    2,
+    1,
+    1,
+    2,
+    0,
+    0,
+    4,
+    1,
+    2,
+    0,
+    1,
+    0,
+    0,
+    0,
+    2,
+    2,
+    3,
+    0,
+    0,
+    0,
+];
+
+// The same, but for one square of both layers under it.
+const OVER: [u64; 30] = [
+    1,
+    0,
+    0,
+    0,
+    3,
+    1,
+    1,
+    1,
+    2,
+    0,
+    2,
+    1,
+    1,
+    2,
+    0,
+    0,
+    4,
+    1,
+    2,
+    0,
+    1,
+    0,
+    0,
+    0,
+    2,
+    2,
+    3,
+    0,
+    0,
+    0,
+];
+
+// Two layers carry, and layer 2 joins them; no layer is crossed.
+const JOINED: [u64; 9] = [2, 1, 1, 9, 1, 1, 2, 0, 1];
+
 fn show(rt: &LibcRuntime, name: &str, verdict: Verdict) -> Result<(), AnyError> {
     match verdict {
         Verdict::Clean => println!(rt, "{name}: clean")?,
@@ -104,7 +246,13 @@ fn rules_of_others(rt: &LibcRuntime) -> Result<(), AnyError> {
         "gap at the edge apart 4",
         judge(heap, &SIDE_BY_SIDE, &layer, 1, 4),
     )?;
-    show(rt, "mirrored apart 2", judge(heap, &MIRRORED, &layer, 1, 2))
+    show(rt, "mirrored apart 2", judge(heap, &MIRRORED, &layer, 1, 2))?;
+    show(
+        rt,
+        "lower first wide 2",
+        judge(heap, &LOWER_FIRST, &layer, 0, 2),
+    )?;
+    show(rt, "turned wide 2", judge(heap, &TURNED, &layer, 0, 2))
 }
 
 fn show_nets(
@@ -133,23 +281,39 @@ fn show_nets(
     Ok(())
 }
 
+fn nets_of_joins(rt: &LibcRuntime) -> Result<(), AnyError> {
+    show_nets(rt, "join beside", &BESIDE, &JOINED, &[0, 0, 0, 1, 0, 0])?;
+    show_nets(
+        rt,
+        "join over each apart",
+        &APART,
+        &JOINED,
+        &[0, 0, 0, 1, 2, 0],
+    )?;
+    show_nets(rt, "join over both", &OVER, &JOINED, &[0, 0, 0, 1, 3, 0])
+}
+
 fn main(rt: LibcRuntime) -> Result<(), AnyError> {
     rules_of_two_boxes(&rt)?;
     rules_of_others(&rt)?;
+    let crossed = [2, 0, 1, 0, 1, 1];
+    let plain = [2, 0, 1, 9, 1, 1];
     show_nets(
         &rt,
         "crossing",
         &CROSSING,
-        &[2, 0, 1, 0, 1, 1],
+        &crossed,
         &[0, 0, 2, 0, 8, 2, 1, 4, 0, 0, 4, 2, 0, 1, 4],
     )?;
+    show_nets(&rt, "corner", &CORNER, &plain, &[0, 0, 0, 0, 3, 3, 0, 1, 1])?;
     show_nets(
         &rt,
-        "corner",
-        &CORNER,
-        &[2, 0, 1, 1, 1, 1],
-        &[0, 0, 0, 0, 3, 3, 0, 1, 1],
+        "turned",
+        &TURNED,
+        &plain,
+        &[0, 2990, 3, 0, 2991, 2, 0, 0, 3],
     )?;
+    nets_of_joins(&rt)?;
     show_nets(
         &rt,
         "a gate that doesn't carry",

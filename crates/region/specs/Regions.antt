@@ -9,7 +9,7 @@ use Rattle.std.specs.declared.option.Option.the-variants.{Some, None}
 use Rattle.scanline.specs.declared.Op.{Op}
 use Rattle.scanline.specs.declared.band.Band.{Band}
 use Rattle.scanline.specs.Lines.{applied}
-use Rattle.scanline.specs.Bands.{edges, covers}
+use Rattle.scanline.specs.Bands.{edges, covers, Canonical}
 
 abbrev pub firstRow : List Band → List Band → Option ℕ
 firstRow [] [] = None
@@ -35,3 +35,7 @@ Alike [] [] = Unit {0}
 Alike [] (b ∷ bs) = ⊥
 Alike (a ∷ xs) [] = ⊥
 Alike (a ∷ xs) (b ∷ bs) = (a .from ≡ b .from) × (edges a ≡ edges b) × Alike xs bs
+
+-- a set of squares has one list of bands in normal form
+abbrev pub One-form : Type 0
+One-form = (a b : List Band) → Canonical a → Canonical b → ((x y : ℕ) → covers a x y ≡ covers b x y) → Alike a b
