@@ -28,7 +28,7 @@ pub enum Comparison {
 }
 
 /// Compares two circuits, each given by how many nets it has and its devices in threes: the gate's net, then the nets of the two ends, in either order.
-/// Nets and devices are paired one to one; the nets below `named` have names and go with themselves.
+/// A circuit has 1 to 256 nets and up to 256 devices. Nets and devices are paired one to one; the nets below `named` have names and go with themselves.
 pub fn compare(nets_a: u64, nets_b: u64, named: u64, a: &[u64], b: &[u64]) -> Comparison
     ensures { λ r. ⌜ Comparison-says «nets_a» «nets_b» named (now (a .entry)) (now (b .entry)) r ⌝ }
 {

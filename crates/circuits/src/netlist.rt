@@ -4,6 +4,12 @@ ghost use Prim.Native.Nat.{_/_, _<_};
 ghost use lib.ListN.{length};
 ghost use Rattle.circuits.specs.Netlists.{has, fits, device-at, three, all-at-most, circuit-ok};
 
+/// The most devices that a circuit has.
+const MAX_DEVICES: usize = 256;
+
+/// The most nets that a circuit has.
+const MAX_NETS: u64 = 256;
+
 /// The device at a place has this gate and these ends, in either order.
 fn matches(c: &[u64], i: usize, gate: u64, one: u64, other: u64) -> bool
     requires { ⌜ i < length (now c) / 3 ⌝ }
@@ -51,13 +57,13 @@ pub fn is_circuit(nets: u64, c: &[u64]) -> bool
     if c.len() % 3 != 0 {
         return false;
     }
-    if c.len() / 3 > 256 {
+    if c.len() / 3 > MAX_DEVICES {
         return false;
     }
     if nets == 0 {
         return false;
     }
-    if nets > 256 {
+    if nets > MAX_NETS {
         return false;
     }
     at_most(c, nets - 1)
