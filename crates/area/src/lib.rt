@@ -1,4 +1,6 @@
 // The area of a region: how many squares it has.
+#![tactic(auto)]
+
 ghost use Rattle.std.specs.Prelude.{◌*◌, ◌<◌};
 ghost use Rattle.scanline.specs.Bands.{Canonical, covers, edges};
 ghost use Rattle.area.specs.Areas.{length_of, area_of, Sums, Counted};

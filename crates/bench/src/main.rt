@@ -1,5 +1,7 @@
 // bench: reads boxes from standard input, one `LAYER X Y ACROSS DOWN` to a line, and times the sweep, each rule and the
 // nets. Counts go to standard output, times to standard error.
+#![tactic(auto)]
+
 ghost use Rattle.std.specs.Prelude.{◌^◌, ◌<◌, IfSome};
 ghost use Rattle.std.specs.List.{AllByRecursion as All};
 ghost use Rattle.layout.specs.Rects.{Within};

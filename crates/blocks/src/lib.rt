@@ -1,4 +1,6 @@
 // Regions grown, and the squares that lie in square blocks of a region, or in blocks free of it.
+#![tactic(auto)]
+
 ghost use Rattle.std.specs.Prelude.{◌≡◌, ℕ, ◌+◌, ◌*◌, ◌^◌, ◌<◌, ◌≤◌, not, IfOk};
 ghost use Rattle.scanline.specs.Bands.{covers};
 ghost use Rattle.blocks.specs.Settled.{Settled, Dilated, Exactly, Corners};

@@ -1,4 +1,6 @@
 // circuit_bench: compares circuits that are hard to tell apart, the second of each pair shuffled. Answers go to standard output, times to standard error.
+#![tactic(auto)]
+
 use circuits::{Comparison, compare};
 use families::{anywhere, cycles, inverters, memory, side_by_side, torus, with_moved_gate};
 use graph::Graph;

@@ -1,4 +1,6 @@
 // Two circuits compared: the same, if their nets and devices can be paired.
+#![tactic(auto)]
+
 ghost use Rattle.circuits.specs.Comparisons.{ComparisonSays};
 
 pub mod colour;

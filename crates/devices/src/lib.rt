@@ -1,4 +1,6 @@
 // Devices: channels under gates, and the nets at their ends.
+#![tactic(auto)]
+
 pub mod border;
 pub mod channel;
 pub mod crossing;

@@ -1,4 +1,6 @@
 // drc LAYOUT RULES: says where a layout breaks each rule first, or that it is clean.
+#![tactic(auto)]
+
 use anyhow::anyhow;
 use deck::fault::DeckFault;
 use deck::judge_deck;

@@ -1,4 +1,6 @@
 // examples: prints the worked examples, which are held to the file stdout beside src/.
+#![tactic(auto)]
+
 use nets::entry::Numbering;
 use nets::nets;
 use rules::judge::Verdict;

@@ -1,4 +1,6 @@
 // Layouts in numbers: checked, counted, and written out as boxes.
+#![tactic(auto)]
+
 pub mod change;
 pub mod check;
 pub mod count;

@@ -1,4 +1,6 @@
 // Writes a layout in numbers as a text that means the same drawing.
+#![tactic(auto)]
+
 pub mod cell;
 pub mod law;
 pub mod line;

@@ -1,4 +1,6 @@
 // Nets: which spots of a layout hang together, along wire and through joining layers.
+#![tactic(auto)]
+
 pub mod entry;
 pub mod join;
 pub mod law;

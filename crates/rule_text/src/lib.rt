@@ -1,4 +1,6 @@
 // Reads rule texts into the numbers that the rule entries take.
+#![tactic(auto)]
+
 pub mod expression;
 pub mod law;
 pub mod operator;

@@ -1,4 +1,6 @@
 // Rules judged: which square of a layout breaks a rule first, if any.
+#![tactic(auto)]
+
 pub mod broken;
 pub mod evaluate;
 pub mod judge;

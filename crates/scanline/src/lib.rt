@@ -1,4 +1,6 @@
 // Sets of numbers as lines: strictly increasing edges, at each of which the set begins or ends.
+#![tactic(auto)]
+
 ghost use Rattle.std.specs.Prelude.{◌≡◌, IfOk};
 ghost use Rattle.scanline.specs.Lines.{Sorted, applied, first, turns, past, Combined};
 

@@ -1,4 +1,6 @@
 // text_examples: prints the worked examples as texts, which are held to the file stdout beside src/.
+#![tactic(auto)]
+
 use anyhow::anyhow;
 use area::area;
 use circuit_text::read_circuit;

@@ -1,4 +1,6 @@
 // Tests of the libraries on examples, in a crate of their own: a crate with tests is proved twice.
+#![tactic(auto)]
+
 #[cfg(test)]
 mod of_circuits;
 #[cfg(test)]
