@@ -8,11 +8,11 @@ use Rattle.layout.specs.declared.rect.Rect.{Rect}
 use Rattle.layout.proofs.Changes.{tail_over}
 use Rattle.layout.proofs.change.change_tail.Goals as goal
 
-pub change-all-requires : goal.change-all-requires
-change-all-requires c =
+pub change_all-requires : goal.change_all-requires
+change_all-requires c =
     let s = c.args.start in
-    let e = take_rest c.as-mut-slice.result.now s ∙ ap (drop s) c.as-mut-slice.ensures.value in
+    let e = take_rest c.as_mut_slice.result.now s ∙ ap (drop s) c.as_mut_slice.ensures.value in
     record { within = subst (λ (qs : List Rect). All (Within (2 ^ 48)) qs) (sym e) c.requires.within; mild = c.requires.mild }
 
 pub returns : goal.returns
-returns c = tail_over (change_rect c.args.by) _ _ c.change-all.new.rects c.args.start _ c.as-mut-slice.ensures.value c.args.out.now.ok.0 c.requires.start c.change-all.ensures
+returns c = tail_over (change_rect c.args.by) _ _ c.change_all.new.rects c.args.start _ c.as_mut_slice.ensures.value c.args.out.now.ok.0 c.requires.start c.change_all.ensures

@@ -17,4 +17,4 @@ loop-i-preserved c =
     let long = c.args.out.now.ok.0 in
     let f = move_rect c.args.right c.args.below in
     let more = copied_more f _ _ c.args.start c.loop-i.i c.index-q.result.now c.moved.result (omega arith) (omega arith) c.loop-i.invariant.1 (c.moved.ensures ∙ ap f c.index-q.ensures) in
-    (omega (arith, c.in-ok-push.ensures.len), c.in-ok-push.ensures.items ∙ more)
+    (omega (arith, c.in_ok-push.ensures.len), c.in_ok-push.ensures.items ∙ more)

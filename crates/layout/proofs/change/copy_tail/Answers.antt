@@ -9,8 +9,8 @@ loop-k-init c =
     let long = c.len-end.ensures ∙ c.args.out.now.ok.0 in
     copied_none (vec_items c.args.out.now) c.args.start c.len-end.result c.args.right c.args.below long
 
-pub copy-once-requires : goal.copy-once-requires
-copy-once-requires c =
+pub copy_once-requires : goal.copy_once-requires
+copy_once-requires c =
     let long = c.len-end.ensures ∙ c.args.out.now.ok.0 in
     let k = c.loop-k.k in
     let before : k ≤ c.args.many = omega arith in
@@ -25,4 +25,4 @@ copy-once-requires c =
 pub loop-k-preserved : goal.loop-k-preserved
 loop-k-preserved c =
     let long = c.len-end.ensures ∙ c.args.out.now.ok.0 in
-    copied-again (vec_items c.args.out.now) c.args.start c.len-end.result c.args.right c.args.below long c.loop-k.k _ _ c.loop-k.invariant c.in-ok-copy-once.ensures
+    copied-again (vec_items c.args.out.now) c.args.start c.len-end.result c.args.right c.args.below long c.loop-k.k _ _ c.loop-k.invariant c.in_ok-copy_once.ensures

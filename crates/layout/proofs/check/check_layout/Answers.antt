@@ -21,35 +21,35 @@ returns-in-Some c =
     let h = c.in-Some.ensures in
     (refused-2a c.args.nodes.now s.0 s.1 s.2 c.in-Some.place h.1, h)
 
-pub first-late-requires : goal.first-late-requires
-first-late-requires c =
+pub first_late-requires : goal.first_late-requires
+first_late-requires c =
     let s = shaped c.args.nodes.now c.if-len-eq0.false c.if-len.false c.if-len-ne0.false in
-    record { whole = s.0; small = c.in-default.ensures }
+    record { whole = s.0; small = c.in_default.ensures }
 
-pub returns-in-Some-first-late : goal.returns-in-Some-first-late
-returns-in-Some-first-late c =
+pub returns-in-Some-first_late : goal.returns-in-Some-first_late
+returns-in-Some-first_late c =
     let s = shaped c.args.nodes.now c.if-len-eq0.false c.if-len.false c.if-len-ne0.false in
-    let h = c.in-Some-first-late.ensures in
-    (refused-2b c.args.nodes.now s.0 s.1 s.2 c.in-Some-first-late.n h.0 h.1, c.in-default.ensures, h)
+    let h = c.in-Some-first_late.ensures in
+    (refused-2b c.args.nodes.now s.0 s.1 s.2 c.in-Some-first_late.n h.0 h.1, c.in_default.ensures, h)
 
-pub count-boxes-counts-requires : goal.count-boxes-counts-requires
-count-boxes-counts-requires c = sound_from c.args.nodes.now c.if-len-eq0.false c.if-len.false c.if-len-ne0.false c.in-default.ensures c.in-default-first-late.ensures
+pub count_boxes-counts-requires : goal.count_boxes-counts-requires
+count_boxes-counts-requires c = sound_from c.args.nodes.now c.if-len-eq0.false c.if-len.false c.if-len-ne0.false c.in_default.ensures c.in_default-first_late.ensures
 
-pub returns-then-counts-last-gt-MAX-BOXES : goal.returns-then-counts-last-gt-MAX-BOXES
-returns-then-counts-last-gt-MAX-BOXES c =
-    let s = sound_from c.args.nodes.now c.if-len-eq0.false c.if-len.false c.if-len-ne0.false c.in-default.ensures c.in-default-first-late.ensures in
+pub returns-then-counts-last-gt-MAX_BOXES : goal.returns-then-counts-last-gt-MAX_BOXES
+returns-then-counts-last-gt-MAX_BOXES c =
+    let s = sound_from c.args.nodes.now c.if-len-eq0.false c.if-len.false c.if-len-ne0.false c.in_default.ensures c.in_default-first_late.ensures in
     let p = length c.args.nodes.now / 6 - 1 in
     let last : p + 1 ≡ sixes c.args.nodes.now = omega (arith, s.whole, s.some) in
-    (refused-3 c.args.nodes.now s p last (omega (arith, c.count-boxes-counts.ensures.1 p (omega arith))), last)
+    (refused-3 c.args.nodes.now s p last (omega (arith, c.count_boxes-counts.ensures.1 p (omega arith))), last)
 
 pub returns : goal.returns
 returns c =
     let xs = c.args.nodes.now in
-    let s = sound_from xs c.if-len-eq0.false c.if-len.false c.if-len-ne0.false c.in-default.ensures c.in-default-first-late.ensures in
+    let s = sound_from xs c.if-len-eq0.false c.if-len.false c.if-len-ne0.false c.in_default.ensures c.in_default-first_late.ensures in
     let p = length xs / 6 - 1 in
     let last : p + 1 ≡ sixes xs = omega (arith, s.whole, s.some) in
-    let known = c.count-boxes-counts.ensures.1 p (omega arith) in (
+    let known = c.count_boxes-counts.ensures.1 p (omega arith) in (
       refused-0 xs s p last (omega arith),
-      c.if-counts-last-gt-MAX-BOXES.false,
-      λ q e. let same : p ≡ q = omega arith in subst (λ (u : ℕ). get_or c.count-boxes-counts.result p 0 ≡ boxes (λ k. 0) (piece xs u)) same (omega arith),
+      c.if-counts-last-gt-MAX_BOXES.false,
+      λ q e. let same : p ≡ q = omega arith in subst (λ (u : ℕ). get_or c.count_boxes-counts.result p 0 ≡ boxes (λ k. 0) (piece xs u)) same (omega arith),
     )

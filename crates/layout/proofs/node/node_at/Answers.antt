@@ -27,26 +27,26 @@ returns-in-6 c = read-6 _ _ c.requires.small c.in-6.is c.if-c-limit-2.true
 pub returns-in-7 : goal.returns-in-7
 returns-in-7 c = read-7 _ _ c.requires.small c.in-7.is c.if-c-limit-3.true
 
-pub returns-in-default : goal.returns-in-default
-returns-in-default c = late-2b _ _ c.in-2.is c.if-b-limit.false
+pub returns-in_default : goal.returns-in_default
+returns-in_default c = late-2b _ _ c.in-2.is c.if-b-limit.false
 
-pub returns-in-default·2 : goal.returns-in-default·2
-returns-in-default·2 c = late-2a _ _ c.in-2.is c.if-a-limit.false
+pub returns-in_default-2 : goal.returns-in_default-2
+returns-in_default-2 c = late-2a _ _ c.in-2.is c.if-a-limit.false
 
-pub returns-in-default·3 : goal.returns-in-default·3
-returns-in-default·3 c = late-3 _ _ c.in-3.is c.if-c-limit.false
+pub returns-in_default-3 : goal.returns-in_default-3
+returns-in_default-3 c = late-3 _ _ c.in-3.is c.if-c-limit.false
 
-pub returns-in-default·4 : goal.returns-in-default·4
-returns-in-default·4 c = late-4 _ _ c.in-4.is c.if-b-limit-2.false
+pub returns-in_default-4 : goal.returns-in_default-4
+returns-in_default-4 c = late-4 _ _ c.in-4.is c.if-b-limit-2.false
 
-pub returns-in-default·5 : goal.returns-in-default·5
-returns-in-default·5 c = late-5 _ _ c.in-5.is c.if-b-limit-3.false
+pub returns-in_default-5 : goal.returns-in_default-5
+returns-in_default-5 c = late-5 _ _ c.in-5.is c.if-b-limit-3.false
 
-pub returns-in-default·6 : goal.returns-in-default·6
-returns-in-default·6 c = late-6 _ _ c.in-6.is c.if-c-limit-2.false
+pub returns-in_default-6 : goal.returns-in_default-6
+returns-in_default-6 c = late-6 _ _ c.in-6.is c.if-c-limit-2.false
 
-pub returns-in-default·7 : goal.returns-in-default·7
-returns-in-default·7 c = late-7 _ _ c.in-7.is c.if-c-limit-3.false
+pub returns-in_default-7 : goal.returns-in_default-7
+returns-in_default-7 c = late-7 _ _ c.in-7.is c.if-c-limit-3.false
 
-pub returns-in-default·8 : goal.returns-in-default·8
-returns-in-default·8 c = no_kind c.args.nodes.now c.args.n (omega arith)
+pub returns-in_default-8 : goal.returns-in_default-8
+returns-in_default-8 c = no_kind c.args.nodes.now c.args.n (omega arith)

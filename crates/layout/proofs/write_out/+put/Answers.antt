@@ -9,23 +9,23 @@ use Rattle.layout.proofs.write_out.+put.Goals as goal
 pub returns-then-counts-n-eq0 : goal.returns-then-counts-n-eq0
 returns-then-counts-n-eq0 t c = put-none _ c.requires.sound c.args.n c.requires.within _ c.requires.counted c.if-counts-n-eq0.true _
 
-pub change-tail-requires : goal.change-tail-requires
-change-tail-requires t c =
+pub change_tail-requires : goal.change_tail-requires
+change_tail-requires t c =
     let m = c.in-Changed.ensures.modest in
     let at = c.len-start.ensures ∙ c.args.out.now.ok.0 in
-    let added = c.in-ok-put-3.ensures in
+    let added = c.in_ok-put-in-Changed.ensures in
     record {
       start = omega (arith, tail-starts _ _ _ c.len-start.result at added, c.put-in-Changed.new.out.ok.0);
       within = tail_within _ _ _ c.len-start.result at added (piece-small _ c.requires.sound c.in-Changed.of (omega arith));
       mild = mild-of c.in-Changed.by m.1;
     }
 
-pub copy-tail-requires : goal.copy-tail-requires
-copy-tail-requires t c =
+pub copy_tail-requires : goal.copy_tail-requires
+copy_tail-requires t c =
     let r = c.in-Row.ensures in
     let m = r.modest in
     let at = c.len-start.ensures ∙ c.args.out.now.ok.0 in
-    let added = c.in-ok-put-4.ensures in
+    let added = c.in_ok-put-in-Row.ensures in
     record {
       start = omega (arith, tail-starts _ _ _ c.len-start.result at added, c.put-in-Row.new.out.ok.0);
       some = row-some c.in-Row.many c.in-Row.far _ (put_some _ c.requires.sound c.args.n c.requires.within _ c.requires.counted c.if-counts-n-eq0.false _ (piece_is _ c.requires.sound c.args.n c.requires.within _ r));
@@ -33,12 +33,12 @@ copy-tail-requires t c =
       mild = (omega (arith, mul-le c.in-Row.many c.in-Row.far max_number max_number m.1 m.2), omega (arith, mul-zero c.in-Row.many));
     }
 
-pub copy-tail-requires-in-Column : goal.copy-tail-requires-in-Column
-copy-tail-requires-in-Column t c =
+pub copy_tail-requires-in-Column : goal.copy_tail-requires-in-Column
+copy_tail-requires-in-Column t c =
     let r = c.in-Column.ensures in
     let m = r.modest in
     let at = c.len-start.ensures ∙ c.args.out.now.ok.0 in
-    let added = c.in-ok-put-5.ensures in
+    let added = c.in_ok-put-in-Column.ensures in
     record {
       start = omega (arith, tail-starts _ _ _ c.len-start.result at added, c.put-in-Column.new.out.ok.0);
       some = column-some c.in-Column.many c.in-Column.far _ (put_some _ c.requires.sound c.args.n c.requires.within _ c.requires.counted c.if-counts-n-eq0.false _ (piece_is _ c.requires.sound c.args.n c.requires.within _ r));
@@ -49,17 +49,17 @@ copy-tail-requires-in-Column t c =
 pub returns-in-Nothing : goal.returns-in-Nothing
 returns-in-Nothing t c = put-done _ c.requires.sound c.args.n c.requires.within (vec_items c.args.out.now) c.len-start.result (c.len-start.ensures ∙ c.args.out.now.ok.0) _ c.in-Nothing.ensures (vec_items c.args.out.now) _ (refl)
 
-pub returns-in-ok-push : goal.returns-in-ok-push
-returns-in-ok-push t c = put-done _ c.requires.sound c.args.n c.requires.within (vec_items c.args.out.now) c.len-start.result (c.len-start.ensures ∙ c.args.out.now.ok.0) _ c.in-One.ensures (vec_items c.args.out.now) _ c.in-ok-push.ensures.items
+pub returns-in_ok-push-in-One : goal.returns-in_ok-push-in-One
+returns-in_ok-push-in-One t c = put-done _ c.requires.sound c.args.n c.requires.within (vec_items c.args.out.now) c.len-start.result (c.len-start.ensures ∙ c.args.out.now.ok.0) _ c.in-One.ensures (vec_items c.args.out.now) _ c.in_ok-push-in-One.ensures.items
 
-pub returns-in-ok-put-2 : goal.returns-in-ok-put-2
-returns-in-ok-put-2 t c = put-done _ c.requires.sound c.args.n c.requires.within (vec_items c.args.out.now) c.len-start.result (c.len-start.ensures ∙ c.args.out.now.ok.0) _ c.in-Both.ensures _ _ ((c.in-ok-put.ensures, c.in-ok-put-2.ensures))
+pub returns-in_ok-put-in-Both-2 : goal.returns-in_ok-put-in-Both-2
+returns-in_ok-put-in-Both-2 t c = put-done _ c.requires.sound c.args.n c.requires.within (vec_items c.args.out.now) c.len-start.result (c.len-start.ensures ∙ c.args.out.now.ok.0) _ c.in-Both.ensures _ _ ((c.in_ok-put-in-Both.ensures, c.in_ok-put-in-Both-2.ensures))
 
-pub returns-in-ok-put-3 : goal.returns-in-ok-put-3
-returns-in-ok-put-3 t c = put-done _ c.requires.sound c.args.n c.requires.within (vec_items c.args.out.now) c.len-start.result (c.len-start.ensures ∙ c.args.out.now.ok.0) _ c.in-Changed.ensures _ _ ((c.in-ok-put-3.ensures, c.change-tail.ensures))
+pub returns-in_ok-put-in-Changed : goal.returns-in_ok-put-in-Changed
+returns-in_ok-put-in-Changed t c = put-done _ c.requires.sound c.args.n c.requires.within (vec_items c.args.out.now) c.len-start.result (c.len-start.ensures ∙ c.args.out.now.ok.0) _ c.in-Changed.ensures _ _ ((c.in_ok-put-in-Changed.ensures, c.change_tail.ensures))
 
-pub returns-in-ok-copy-tail : goal.returns-in-ok-copy-tail
-returns-in-ok-copy-tail t c = put-done _ c.requires.sound c.args.n c.requires.within (vec_items c.args.out.now) c.len-start.result (c.len-start.ensures ∙ c.args.out.now.ok.0) _ c.in-Row.ensures _ _ ((c.in-ok-put-4.ensures, c.in-ok-copy-tail.ensures))
+pub returns-in_ok-copy_tail-in-Row : goal.returns-in_ok-copy_tail-in-Row
+returns-in_ok-copy_tail-in-Row t c = put-done _ c.requires.sound c.args.n c.requires.within (vec_items c.args.out.now) c.len-start.result (c.len-start.ensures ∙ c.args.out.now.ok.0) _ c.in-Row.ensures _ _ ((c.in_ok-put-in-Row.ensures, c.in_ok-copy_tail-in-Row.ensures))
 
-pub returns-in-ok-copy-tail-2 : goal.returns-in-ok-copy-tail-2
-returns-in-ok-copy-tail-2 t c = put-done _ c.requires.sound c.args.n c.requires.within (vec_items c.args.out.now) c.len-start.result (c.len-start.ensures ∙ c.args.out.now.ok.0) _ c.in-Column.ensures _ _ ((c.in-ok-put-5.ensures, c.in-ok-copy-tail-2.ensures))
+pub returns-in_ok-copy_tail-in-Column : goal.returns-in_ok-copy_tail-in-Column
+returns-in_ok-copy_tail-in-Column t c = put-done _ c.requires.sound c.args.n c.requires.within (vec_items c.args.out.now) c.len-start.result (c.len-start.ensures ∙ c.args.out.now.ok.0) _ c.in-Column.ensures _ _ ((c.in_ok-put-in-Column.ensures, c.in_ok-copy_tail-in-Column.ensures))
