@@ -3,7 +3,7 @@
 #![tactic(auto)]
 
 ghost use Rattle.std.specs.Prelude.{◌^◌, ◌<◌, IfSome};
-ghost use Rattle.std.specs.List.{AllByRecursion as All};
+ghost use Rattle.std.specs.List.{AllByRecursion};
 ghost use Rattle.layout.specs.Rects.{Within};
 
 use anyhow::anyhow;
@@ -56,8 +56,8 @@ fn parse_box(line: &str) -> Option<Rect>
 
 // One box more; false where the line is none.
 fn add_box(boxes: &mut Vec<Rect>, line: &str) -> Result<bool, AllocError>
-    requires { All (Within (2 ^ 40)) boxes.old.items }
-    ensures { All (Within (2 ^ 40)) boxes.new.items }
+    requires { AllByRecursion (Within (2 ^ 40)) boxes.old.items }
+    ensures { AllByRecursion (Within (2 ^ 40)) boxes.new.items }
 {
     match parse_box(line) {
         Some(rect) => {
@@ -79,7 +79,7 @@ fn intervals(region: &Region) -> u64 {
 
 // The layer's region, timed.
 fn sweep_layer(rt: &HostRuntime, boxes: &[Rect], layer: u64) -> anyhow::Result<Region>
-    requires { All (Within (2 ^ 40)) boxes.now }
+    requires { AllByRecursion (Within (2 ^ 40)) boxes.now }
 {
     let start = Instant::now(rt)?;
     let region = Region::from_boxes(rt.alloc(), boxes, layer)?;
@@ -127,7 +127,7 @@ fn time_inside(rt: &HostRuntime, name: &str, a: &Region, b: &Region) -> anyhow::
 
 // Four wide, four apart and three inside over six layers.
 fn time_rules(rt: &HostRuntime, boxes: &[Rect]) -> anyhow::Result<()>
-    requires { All (Within (2 ^ 40)) boxes.now }
+    requires { AllByRecursion (Within (2 ^ 40)) boxes.now }
 {
     let zero = sweep_layer(rt, boxes, 0)?;
     let one = sweep_layer(rt, boxes, 1)?;
@@ -149,7 +149,7 @@ fn time_rules(rt: &HostRuntime, boxes: &[Rect]) -> anyhow::Result<()>
     Ok(())
 }
 
-// All layers carry, and nothing joins them.
+// AllByRecursion layers carry, and nothing joins them.
 fn all_carry(heap: Global) -> Result<Process, AllocError> {
     let carries = vec![in heap; true; LAYERS as usize]?;
     Ok(Process {
@@ -161,7 +161,7 @@ fn all_carry(heap: Global) -> Result<Process, AllocError> {
 }
 
 fn time_nets(rt: &HostRuntime, boxes: &[Rect]) -> anyhow::Result<()>
-    requires { All (Within (2 ^ 40)) boxes.now }
+    requires { AllByRecursion (Within (2 ^ 40)) boxes.now }
 {
     let process = all_carry(rt.alloc())?;
     let start = Instant::now(rt)?;

@@ -1,6 +1,6 @@
 -- A rule of a deck, judged on layers that show what is drawn, is judged on the layout. Assumes nothing.
 use Rattle.std.proofs.Common.{◌≡◌, ℕ, ◌^◌, Bool, List, sym, refl, ap, ◌∙◌}
-use Rattle.std.specs.List.{AllByRecursion as All}
+use Rattle.std.specs.List.{AllByRecursion}
 use Rattle.layout.specs.Numbers.{layout_in}
 use Rattle.layout.specs.Rects.{Within, covered}
 use Rattle.layout.specs.declared.rect.Rect.{Rect}
@@ -16,7 +16,7 @@ use Rattle.rule_text.specs.Rules as text
 use Rattle.deck.specs.Decks.{BrokenBy}
 use Rattle.deck.specs.Readings.{Held, Marks}
 
-module _ (xs : List ℕ) (boxes : List Rect) (s : Layers) (wanted : List Bool) (e : covered boxes ≡ layout_in xs) (h : All (Within (2 ^ 40)) boxes) (w : Swept (covered boxes) wanted s) where
+module _ (xs : List ℕ) (boxes : List Rect) (s : Layers) (wanted : List Bool) (e : covered boxes ≡ layout_in xs) (h : AllByRecursion (Within (2 ^ 40)) boxes) (w : Swept (covered boxes) wanted s) where
   pub judged : (t : text.Rule) (r : Rule) (v : Region) → Held t r → Marks wanted r → Breaking s r v → BrokenBy xs t v
   judged t r v q m b =
       let shown = shown_is boxes s r wanted wanted h (record { marks = m; keeps = λ l k. k; long = refl }) w in (

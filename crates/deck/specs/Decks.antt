@@ -1,6 +1,6 @@
 -- What judging a deck of rules answers: for each rule the squares that break it. Assumes nothing: these are definitions.
 use Rattle.std.specs.Prelude.{◌≡◌, ℕ, ◌<◌, List, [], ◌∷◌, length, take, Ok, Err, vec_items, Result, Vec, slice_index_or}
-use Rattle.std.specs.List.{AllByRecursion as All}
+use Rattle.std.specs.List.{AllByRecursion}
 use Rattle.std.specs.declared.alloc.Global.{Global}
 use Rattle.layout.specs.Numbers.{layout_refusal, layout_in}
 use Rattle.layout.specs.Checks.{TurnedAway}
@@ -38,7 +38,7 @@ pub record FirstTurned (rs : List Rule) (place : ℕ) (e : Refusal) : Type 0 whe
   pub within : place < length rs
   pub rule : Rule
   pub there : (d : Rule) → slice_index_or rs place d ≡ rule
-  pub earlier : All Takes (take place rs)
+  pub earlier : AllByRecursion Takes (take place rs)
   pub turned : Turns rule e
 
 -- for each rule the squares that break it; or the layout's refusal, or else that of the first rule at fault; or that there was no memory for a layout that is taken

@@ -1,7 +1,7 @@
 -- The rules of a deck as they are held, the layers that they name, and the regions that they come to. Assumes nothing: these are definitions.
 use Rattle.std.specs.Prelude.{◌≡◌, ℕ, ◌<◌, Bool, true, List, map, Ok, Err, vec_items, Result, Vec, slice_index_or}
 use Rattle.std.specs.declared.alloc.Global.{Global}
-use Rattle.std.specs.List.{AllByRecursion as All}
+use Rattle.std.specs.List.{AllByRecursion}
 use Rattle.region.specs.declared.regions.Region.{Region}
 use Rattle.rules.specs.Tests.{RuleRead}
 use Rattle.rules.specs.Values.{among, Breaking}
@@ -32,7 +32,7 @@ abbrev pub Marks : List Bool → Rule → Type 0
 Marks wanted r = (i l : ℕ) → i < r.len → slice_index_or r.terms i (Layer 0) ≡ Layer l → among wanted l ≡ true
 
 abbrev pub AllMarked : List Rule → List Bool → Type 0
-AllMarked rs wanted = All (Marks wanted) rs
+AllMarked rs wanted = AllByRecursion (Marks wanted) rs
 
 abbrev pub AllBreaking : Layers → List Rule → List Region → Type 0
 AllBreaking s rs vs = Each (Breaking s) rs vs

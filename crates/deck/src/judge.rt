@@ -1,6 +1,6 @@
 // A layout judged by a deck.
 ghost use Rattle.std.specs.Prelude.{map, IfOk};
-ghost use Rattle.std.specs.List.{AllByRecursion as All};
+ghost use Rattle.std.specs.List.{AllByRecursion};
 ghost use Rattle.rules.specs.Values.{Sound};
 ghost use Rattle.rule_text.specs.Rules.{rule-of};
 ghost use Rattle.deck.specs.Decks.{DeckJudged};
@@ -20,7 +20,7 @@ use std::alloc::{AllocError, Global};
 
 // The squares that break each rule, on layers that are swept.
 fn judge_layers(heap: Global, layers: &Layers, rules: &[Rule]) -> Result<Vec<Region>, AllocError>
-    requires { All Sound rules.now }
+    requires { AllByRecursion Sound rules.now }
     ensures { IfOk result (λ v. AllBreaking layers.now rules.now v.items) }
 {
     let mut regions = Vec::new(heap);

@@ -1,6 +1,6 @@
 // The rules of a deck, read from the numbers that its lines say.
 ghost use Rattle.std.specs.Prelude.{◌≡◌, map, vec_len};
-ghost use Rattle.std.specs.List.{AllByRecursion as All};
+ghost use Rattle.std.specs.List.{AllByRecursion};
 ghost use Rattle.rules.specs.Values.{Sound};
 ghost use Rattle.rule_text.specs.Rules.{rule-of};
 ghost use Rattle.deck.specs.Readings.{DeckRead, AllMarked};
@@ -28,7 +28,7 @@ pub(crate) fn read_deck(heap: Global, deck: &[RuleText]) -> Result<Vec<Rule>, De
 
 // Marks the layers that the rules name.
 pub(crate) fn mark_deck(rules: &[Rule], wanted: &mut Vec<bool>)
-    requires sound { All Sound rules.now }
+    requires sound { AllByRecursion Sound rules.now }
     requires long { vec_len wanted.old ≡ 256 }
     ensures { AllMarked rules.now wanted.new.items }
 {

@@ -1,6 +1,6 @@
 -- Borders: one for the first square of each box where channels and wire meet is enough.
 use Rattle.std.proofs.Common.{◌≡◌, ℕ, suc, ◌+◌, ◌-◌, ◌<◌, ◌≤◌, Bool, true, false, ◌&&◌, eqb, ◌⊎◌, List, [], ◌∷◌, ◌++◌, length, get_or, sym, refl, ap, ◌∙◌, subst, inl, inr, arith, below_more}
-use Rattle.std.specs.List.{ContainsAt as In, AllByRecursion as All}
+use Rattle.std.specs.List.{ContainsAt as In, AllByRecursion}
 use Rattle.std.proofs.ByRecursion.{All-get_or, All-from_get_or, has_get_or, has_append_left, has_push, has_push_cases}
 use Rattle.std.proofs.lemmas.Bool.{cases_lt, both_ways, and_parts, and_from, and_left, and_right, eq-eqb}
 use Rattle.layout.specs.Layout.{Drawing}
@@ -181,22 +181,22 @@ module _ (v : Direction) (layer : ℕ) (cb wb rb : List Band) (shows : Shows rb 
   meeting-from before ms none cut =
       let same : ms ≡ cut.fresh = cut.adds ∙ ap (λ l. l ++ cut.fresh) none in
       record {
-        solid = subst (All Solid) (sym same) cut.ordered.solid;
-        layers = subst (All (λ t. t.layer ≡ layer)) (sym same) cut.layers;
+        solid = subst (AllByRecursion Solid) (sym same) cut.ordered.solid;
+        layers = subst (AllByRecursion (λ t. t.layer ≡ layer)) (sym same) cut.layers;
         holds = λ x y. ap (λ l. held l layer x y) same ∙ (cut.holds layer x y ∙ rw (eq-eqb layer layer refl) (shows.shows x y));
       }
 
   -- their first squares are not far out
-  pub meeting-near : Bounded cb → (before ms : List Tile) → before ≡ [] → Cut layer rb before ms → All Near ms
+  pub meeting-near : Bounded cb → (before ms : List Tile) → before ≡ [] → Cut layer rb before ms → AllByRecursion Near ms
   meeting-near b before ms none cut =
       let same : ms ≡ cut.fresh = cut.adds ∙ ap (λ l. l ++ cut.fresh) none in
-      let all : All Near cut.fresh = All-from_get_or Near cut.fresh none-tile (λ n h.
+      let all : AllByRecursion Near cut.fresh = All-from_get_or Near cut.fresh none-tile (λ n h.
       let t = tile_at cut.fresh n in
       let s = All-get_or Solid cut.fresh n none-tile h cut.ordered.solid in
       let here : covers rb t.left t.top ≡ true = (and_parts (eqb t.layer layer) (covers rb t.left t.top) (sym (cut.holds t.layer t.left t.top)
       ∙ place-held cut.fresh n t.layer t.left t.top (record { level = refl; left = omega arith; right = s.wide; top = omega arith; bottom = s.tall }))).1 in
       (near-enough t.left (λ f. both_ways (covers rb t.left t.top) ((meeting-bounded b).across t.left t.top f) here), near-enough t.top (λ f. both_ways (covers rb t.left t.top) ((meeting-bounded b).down t.left t.top f) here))) in
-      subst (All Near) (sym same) all
+      subst (AllByRecursion Near) (sym same) all
 
 -- a box of wire, moved
 box-way :
@@ -323,7 +323,7 @@ module _ (k : Technology) (d : Drawing) (cb wb : List Band) (cs : List Tile) (hs
     pub known-judged : (es : List Terminals) → Gathered bs (length cs) es → Judged k d (corner k cs i) (get_or es i Isolated)
     known-judged es all = judged k d (corner k cs i) i bs lists-from (get_or es i Isolated) (all.each i within)
 
-  pub borders-within : All (λ b. b.channel < length cs) bs
+  pub borders-within : AllByRecursion (λ b. b.channel < length cs) bs
   borders-within = All-from_get_or (λ b. b.channel < length cs) bs (record { channel = 0; net = 0; x = 0; y = 0 }) (λ n h.
       let q = (fr.sound _ (has_get_or bs n (record { channel = 0; net = 0; x = 0; y = 0 }) h)).3 in
       omega (arith, q.channel, g.low q.one, holds-within cs q.one _ _ _ q.under))

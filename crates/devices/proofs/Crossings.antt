@@ -1,6 +1,6 @@
 -- A crossing laid from boxes, and what its borders tell.
 use Rattle.std.proofs.Common.{◌≡◌, ℕ, ◌^◌, ◌<◌, ◌≤◌, false, ◌⊎◌, List, length, get_or, vec_items, sym, refl, subst}
-use Rattle.std.specs.List.{AllByRecursion as All}
+use Rattle.std.specs.List.{AllByRecursion}
 use Rattle.std.proofs.lemmas.Bool.{and_left}
 use Rattle.layout.specs.Layout.{Drawing}
 use Rattle.layout.specs.Rects.{Within, covered}
@@ -21,11 +21,11 @@ use Rattle.devices.specs.Readings.{Known}
 use Rattle.devices.proofs.Channels.{gated-from}
 use Rattle.devices.proofs.Borders.{known-judged, borders-within}
 
-pub channel-bounded : (k : Technology) (qs : List Rect) (bs : List Band) → All (Within (2 ^ 40)) qs → Shows bs (gated k (covered qs)) → Bounded bs
+pub channel-bounded : (k : Technology) (qs : List Rect) (bs : List Band) → AllByRecursion (Within (2 ^ 40)) qs → Shows bs (gated k (covered qs)) → Bounded bs
 channel-bounded k qs bs h shows = bounded_from bs (gated k (covered qs)) shows (λ x y o. and_left (covered qs k.crossed x y) _ (far-covered qs k.crossed h x y o))
 
 pub crossed-from :
-    (k : Technology) (qs : List Rect) (c : Crossing) → All (Within (2 ^ 40)) qs → c.layer ≡ k.crossed → Shows (vec_items c.channel.bands) (gated k (covered qs)) →
+    (k : Technology) (qs : List Rect) (c : Crossing) → AllByRecursion (Within (2 ^ 40)) qs → c.layer ≡ k.crossed → Shows (vec_items c.channel.bands) (gated k (covered qs)) →
     Shows (vec_items c.wire.bands) (wire k (covered qs) k.crossed) → Linked c.layer (vec_items c.channel.bands) (vec_items c.channels.tiles) (vec_items c.channels.roots) →
     Wired k (covered qs) (vec_items c.wires.tiles) (vec_items c.wires.roots) → Crossed k (covered qs) c
 crossed-from k qs c h e channel wires link wired = record {
@@ -50,7 +50,7 @@ module _ (k : Technology) (d : Drawing) (c : Crossing) (cr : Crossed k d c) (bs 
       subst (λ l. Fringed l (vec_items c.channel.bands) (vec_items c.wire.bands) (vec_items c.channels.tiles) (vec_items c.channels.roots) (vec_items c.wires.tiles) (vec_items c.wires.roots) bs)
       cr.layer fr
 
-  pub few-channels : All (λ b. b.channel < length (vec_items c.channels.tiles)) bs
+  pub few-channels : AllByRecursion (λ b. b.channel < length (vec_items c.channels.tiles)) bs
   few-channels =
       borders-within k d (vec_items c.channel.bands) (vec_items c.wire.bands) (vec_items c.channels.tiles) (vec_items c.channels.roots) (vec_items c.wires.tiles) (vec_items c.wires.roots)
       cr.channel cr.wire cr.channels cr.wires bs on-crossed

@@ -1,6 +1,6 @@
 -- Of every layout all devices are read, or an odd channel is found: spot after spot below its bound.
 use Rattle.std.proofs.Common.{◌≡◌, ℕ, zero, suc, ◌+◌, ◌<◌, Bool, true, false, cond, not, ◌&&◌, eqb, ◌⊎◌, List, [], ◌∷◌, ◌++◌, length, get_or, sym, refl, ap, ◌∙◌, subst, inl, inr, arith}
-use Rattle.std.specs.List.{ContainsAt as In, AllByRecursion as All}
+use Rattle.std.specs.List.{ContainsAt as In, AllByRecursion}
 use Rattle.std.proofs.lemmas.List.{append-nil, append_assoc}
 use Rattle.std.proofs.ByRecursion.{All-append, all-has, All-get_or, has_append_left, has_append_right, has_get_or}
 use Rattle.std.proofs.lemmas.Bool.{cases_Bool, cases_eq, and_parts, and_from, eq-eqb, ne_eqb, eqb-true, not-true, both_ways}
@@ -54,11 +54,11 @@ in_field g zero n = []
 in_field g (suc m) n = in_column g m n ++ in_field g m n
 
 module _ {X : Type 0} (g : ℕ → ℕ → List X) where
-  all-column : (P : X → Type 0) → ((x y : ℕ) → All P (g x y)) → (x n : ℕ) → All P (in_column g x n)
+  all-column : (P : X → Type 0) → ((x y : ℕ) → AllByRecursion P (g x y)) → (x n : ℕ) → AllByRecursion P (in_column g x n)
   all-column P h x zero = tt
   all-column P h x (suc n) = All-append P (g x n) (in_column g x n) (h x n) (all-column P h x n)
 
-  all-field : (P : X → Type 0) → ((x y : ℕ) → All P (g x y)) → (m n : ℕ) → All P (in_field g m n)
+  all-field : (P : X → Type 0) → ((x y : ℕ) → AllByRecursion P (g x y)) → (m n : ℕ) → AllByRecursion P (in_field g m n)
   all-field P h zero n = tt
   all-field P h (suc m) n = All-append P (in_column g m n) (in_field g m n) (all-column P h m n) (all-field P h m n)
 
@@ -81,7 +81,7 @@ module _ {X : Type 0} (g : ℕ → ℕ → List X) where
 abbrev border_if : Bool → Border → List Border
 border_if t b = cond t (b ∷ []) []
 
-all_if : (P : Border → Type 0) (t : Bool) (b : Border) → (t ≡ true → P b) → All P (border_if t b)
+all_if : (P : Border → Type 0) (t : Bool) (b : Border) → (t ≡ true → P b) → AllByRecursion P (border_if t b)
 all_if P true b h = (h refl, tt)
 all_if P false b h = tt
 
@@ -183,10 +183,10 @@ module _ (k : Technology) (d : Drawing) (net : Spot → ℕ) (netted : Netted k 
     pub wired : on (wire k d) (wire-at way x y) ≡ true
     pub is : b ≡ border-at way x y
 
-  genuine : (v : Direction) (x y : ℕ) → All Genuine (border v x y)
+  genuine : (v : Direction) (x y : ℕ) → AllByRecursion Genuine (border v x y)
   genuine v x y = all_if Genuine (test v x y) (border-at v x y) (λ h. let p = and_parts (on (channel k d) (under_at v x y)) (on (wire k d) (wire-at v x y)) h in record { way = v; x = x; y = y; under = p.0; wired = p.1; is = refl })
 
-  all-around : (x y : ℕ) → All Genuine (around x y)
+  all-around : (x y : ℕ) → AllByRecursion Genuine (around x y)
   all-around x y =
       All-append Genuine (border Right x y) _ (genuine Right x y) (All-append Genuine (border Left x y) _ (genuine Left x y) (All-append Genuine (border Below x y) (border Above x y) (genuine Below x y) (genuine Above x y)))
 
@@ -311,9 +311,9 @@ module _ (k : Technology) (d : Drawing) (net : Spot → ℕ) (netted : Netted k 
 
     -- the channels of these spots are read
     record Got (ss : List Spot) (vs : List Device) : Type 0 where
-      pub each : All (Read k d net) vs
+      pub each : AllByRecursion (Read k d net) vs
       pub once : (i j : ℕ) → i < length vs → j < length vs → Under k d (spot vs i) (spot vs j) → i ≡ j
-      pub all : All (λ s. on (channel k d) s ≡ true → (i : ℕ) × (i < length vs) × Under k d (spot vs i) s) ss
+      pub all : AllByRecursion (λ s. on (channel k d) s ≡ true → (i : ℕ) × (i < length vs) × Under k d (spot vs i) s) ss
 
     seek : (n : ℕ) (vs : List Device) → ((i : ℕ) × (i < length vs) × (name (spot vs i) ≡ n)) ⊎ ((i : ℕ) → i < length vs → name (spot vs i) ≡ n → ⊥)
     seek n [] = inr (λ i h. absurd (omega arith))
@@ -341,7 +341,7 @@ module _ (k : Technology) (d : Drawing) (net : Spot → ℕ) (netted : Netted k 
         new-once (suc i) zero p q u = absurd (fresh i (omega arith) (name-same (spot vs i) v.spot u ∙ ap name is))
         new-once (suc i) (suc j) p q u = ap suc (g.once i j (omega arith) (omega arith) u)
 
-        older : (ts : List Spot) → All (λ t. on (channel k d) t ≡ true → (i : ℕ) × (i < length vs) × Under k d (spot vs i) t) ts → All (λ t. on (channel k d) t ≡ true → (i : ℕ) × (i < length (v ∷ vs)) × Under k d (spot (v ∷ vs) i) t) ts
+        older : (ts : List Spot) → AllByRecursion (λ t. on (channel k d) t ≡ true → (i : ℕ) × (i < length vs) × Under k d (spot vs i) t) ts → AllByRecursion (λ t. on (channel k d) t ≡ true → (i : ℕ) × (i < length (v ∷ vs)) × Under k d (spot (v ∷ vs) i) t) ts
         older [] h = tt
         older (t ∷ ts) h = ((λ e. let p = h.0 e in (suc p.0, omega (arith, p.1), p.2)), older ts h.1)
 

@@ -1,6 +1,6 @@
 -- Where channels and wire lie beside each other. Assumes nothing: these are definitions.
 use Rattle.std.specs.Prelude.{◌≡◌, ℕ, ◌+◌, ◌<◌, Bool, true, ◌&&◌, ◌⊎◌, List, length}
-use Rattle.std.specs.List.{ContainsAt as In, AllByRecursion as All}
+use Rattle.std.specs.List.{ContainsAt as In, AllByRecursion}
 use Rattle.scanline.specs.declared.band.Band.{Band}
 use Rattle.scanline.specs.Bands.{covers}
 use Rattle.tiles.specs.declared.tile.Tile.{Tile}
@@ -43,8 +43,8 @@ meets v c w x y = c (channel_x v x) (channel_y v y) && w (wire_x v x) (wire_y v 
 
 -- boxes that hold the upper or left ones of all such squares
 pub record Meeting (v : Direction) (layer : ℕ) (cb wb : List Band) (ms : List Tile) : Type 0 where
-  pub solid : All Solid ms
-  pub layers : All (λ t. t.layer ≡ layer) ms
+  pub solid : AllByRecursion Solid ms
+  pub layers : AllByRecursion (λ t. t.layer ≡ layer) ms
   pub holds : (x y : ℕ) → held ms layer x y ≡ meets v (covers cb) (covers wb) x y
 
 -- the first square of a box is not far out

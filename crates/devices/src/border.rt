@@ -1,6 +1,6 @@
 // Squares of wire beside channels, direction by direction.
 ghost use Rattle.std.specs.Prelude.{length, IfOk, OnOk};
-ghost use Rattle.std.specs.List.{AllByRecursion as All};
+ghost use Rattle.std.specs.List.{AllByRecursion};
 ghost use Rattle.scanline.specs.Bands.{covers};
 ghost use Rattle.nets.specs.Wires.{Shows};
 ghost use Rattle.devices.specs.Borders.{meets, Near};
@@ -64,7 +64,7 @@ fn add_borders(
     direction: Direction,
 ) -> Result<(), AllocError>
     requires laid { Laid crossing.now }
-    requires near { All Near meetings.now }
+    requires near { AllByRecursion Near meetings.now }
     ensures { OnOk result (Adding direction crossing.now meetings.now (length meetings.now) borders.old.items borders.new.items) }
 {
     for tile in meetings {

@@ -1,6 +1,6 @@
 // Channels and wire of the crossed layer.
 ghost use Rattle.std.specs.Prelude.{◌^◌, IfOk};
-ghost use Rattle.std.specs.List.{AllByRecursion as All};
+ghost use Rattle.std.specs.List.{AllByRecursion};
 ghost use Rattle.layout.specs.Rects.{Within, covered};
 ghost use Rattle.nets.specs.Processes.{technology_of};
 ghost use Rattle.devices.specs.Crossings.{Crossed};
@@ -25,7 +25,7 @@ pub struct Crossing {
 
 // The channels and the wire of the crossed layer.
 pub fn lay_crossing(heap: Global, boxes: &[Rect], process: &Process) -> Result<Crossing, AllocError>
-    requires { All (Within (2 ^ 40)) boxes.now }
+    requires { AllByRecursion (Within (2 ^ 40)) boxes.now }
     ensures { IfOk result (λ c. Crossed (technology_of process.now) (covered boxes.now) c) }
 {
     let layer = process.crossed;

@@ -1,6 +1,6 @@
 // The entry: the devices of a layout, in numbers.
 ghost use Rattle.std.specs.Prelude.{◌^◌, IfOk};
-ghost use Rattle.std.specs.List.{AllByRecursion as All};
+ghost use Rattle.std.specs.List.{AllByRecursion};
 ghost use Rattle.layout.specs.Rects.{Within, covered};
 ghost use Rattle.nets.specs.Processes.{technology_of};
 ghost use Rattle.devices.specs.Readings.{ComesTo};
@@ -31,7 +31,7 @@ pub enum Found {
 
 // Reads the devices of boxes.
 pub fn read_boxes(heap: Global, boxes: &[Rect], process: &Process) -> Result<Reading, AllocError>
-    requires { All (Within (2 ^ 40)) boxes.now }
+    requires { AllByRecursion (Within (2 ^ 40)) boxes.now }
     ensures { IfOk result (ComesTo (technology_of process.now) (covered boxes.now)) }
 {
     let crossing = lay_crossing(heap, boxes, process)?;

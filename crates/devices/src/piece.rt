@@ -1,6 +1,6 @@
 // Tiles in groups, each with the first tile of its group.
 ghost use Rattle.std.specs.Prelude.{◌≡◌, ℕ, ◌^◌, length, IfOk};
-ghost use Rattle.std.specs.List.{AllByRecursion as All};
+ghost use Rattle.std.specs.List.{AllByRecursion};
 ghost use Rattle.layout.specs.Rects.{Within, covered};
 ghost use Rattle.groups.specs.Names.{size, group};
 ghost use Rattle.tiles.specs.Tiles.{Ordered};
@@ -68,7 +68,7 @@ pub fn link_region(heap: Global, layer: u64, region: &Region) -> Result<Pieces, 
 
 // The tiles of wire, in groups by their nets.
 pub fn wire_pieces(heap: Global, boxes: &[Rect], process: &Process) -> Result<Pieces, AllocError>
-    requires { All (Within (2 ^ 40)) boxes.now }
+    requires { AllByRecursion (Within (2 ^ 40)) boxes.now }
     ensures { IfOk result (λ p. Wired (technology_of process.now) (covered boxes.now) p.tiles.items p.roots.items) }
 {
     let tiles = wire_tiles(heap, boxes, process)?;

@@ -1,6 +1,6 @@
 // The nets beside a channel, each with its first square.
 ghost use Rattle.std.specs.Prelude.{◌≡◌, ◌<◌, IfOk};
-ghost use Rattle.std.specs.List.{AllByRecursion as All};
+ghost use Rattle.std.specs.List.{AllByRecursion};
 ghost use Rattle.devices.specs.Terminals.{precedes, sooner, with_one_lem, ends_of, Gathered};
 
 use crate::border::Border;
@@ -88,7 +88,7 @@ impl Terminals {
 
 // What lies beside each of `count` channels.
 pub fn gather(heap: Global, count: usize, borders: &[Border]) -> Result<Vec<Terminals>, AllocError>
-    requires { All (λ b. b.channel < count) borders.now }
+    requires { AllByRecursion (λ b. b.channel < count) borders.now }
     ensures { IfOk result (λ v. Gathered borders.now count v.items) }
 {
     let mut all = vec![in heap; Terminals::Isolated; count]?;

@@ -3,7 +3,7 @@ use Rattle.std.proofs.Common.{◌≡◌, ℕ, zero, suc, ◌+◌, ◌-◌, ◌*�
 use Rattle.std.proofs.lemmas.Bool.{and_parts, cases_eq}
 use Rattle.std.proofs.ByRecursion.{All-append, All-weaker}
 use Rattle.std.proofs.lemmas.Nat.{mul-le}
-use Rattle.std.specs.List.{AllByRecursion as All}
+use Rattle.std.specs.List.{AllByRecursion}
 use Rattle.layout.specs.Limits.{max_number}
 use Rattle.layout.specs.Layout.{Layout, nothing, box, both, row, column}
 use Rattle.layout.specs.Numbers.{node_at, sixes, earlier}
@@ -56,7 +56,7 @@ module _ (xs : List ℕ) (sound : Sound xs) where
   piece_is n k d r = r.same (node_at xs n) ∙ layout_like (node_at xs n) (piece xs) n d r.modest (λ m p. settle n m p (omega arith))
 
 -- how far the boxes of a node reach: below 2 ^ 32 more than those of the ones that it names
-pub within_of : (f : ℕ → Layout) (n : ℕ) (d : Node) → Modest n d → ((m : ℕ) → m < n → All (Within ((m + 1) * 4294967296)) (rects (f m))) → All (Within ((n + 1) * 4294967296)) (rects (layout_of f d))
+pub within_of : (f : ℕ → Layout) (n : ℕ) (d : Node) → Modest n d → ((m : ℕ) → m < n → AllByRecursion (Within ((m + 1) * 4294967296)) (rects (f m))) → AllByRecursion (Within ((n + 1) * 4294967296)) (rects (layout_of f d))
 unfolding rects
 within_of f n Nothing h w = tt
 within_of f n (One q) h w = ((omega arith, omega arith), tt)
@@ -77,15 +77,15 @@ within_of f n (Column k d a) h w =
     copies-within ((a + 1) * 4294967296) _ k 0 d (omega arith) (omega arith) (rects (f a)) (w a h.0)
 
 module _ (xs : List ℕ) (sound : Sound xs) where
-  pub piece-within : (l n : ℕ) → n < l → n < sixes xs → All (Within ((n + 1) * 4294967296)) (rects (piece xs n))
+  pub piece-within : (l n : ℕ) → n < l → n < sixes xs → AllByRecursion (Within ((n + 1) * 4294967296)) (rects (piece xs n))
   piece-within zero n h k = absurd (omega arith)
   piece-within (suc l) n h k =
       let d = read_of xs sound n k in
-      subst (λ (a : Layout). All (Within ((n + 1) * 4294967296)) (rects a)) (sym (piece_is xs sound n k d.0 d.1))
+      subst (λ (a : Layout). AllByRecursion (Within ((n + 1) * 4294967296)) (rects a)) (sym (piece_is xs sound n k d.0 d.1))
       (within_of (piece xs) n d.0 d.1.modest (λ m p. piece-within l m (omega arith) (omega arith)))
 
-  pub piece-near : (n : ℕ) → n < sixes xs → All (Within (2 ^ 40)) (rects (piece xs n))
+  pub piece-near : (n : ℕ) → n < sixes xs → AllByRecursion (Within (2 ^ 40)) (rects (piece xs n))
   piece-near n k = let few = sound.few in All-weaker _ _ (λ q p. (omega arith, omega arith)) (rects (piece xs n)) (piece-within (suc n) n (omega arith) k)
 
-  pub piece-small : (n : ℕ) → n < sixes xs → All (Within (2 ^ 48)) (rects (piece xs n))
+  pub piece-small : (n : ℕ) → n < sixes xs → AllByRecursion (Within (2 ^ 48)) (rects (piece xs n))
   piece-small n k = All-weaker _ _ (λ q p. (omega arith, omega arith)) (rects (piece xs n)) (piece-near n k)

@@ -2,7 +2,7 @@
 use Rattle.std.proofs.Common.{◌≡◌, ℕ, zero, suc, ◌+◌, ◌-◌, ◌*◌, ◌≤◌, List, [], ◌∷◌, map, length, sym, refl, ap, ◌∙◌, suc-mul, zero-mul, arith}
 use Rattle.std.proofs.lemmas.List.{length-append, length-map}
 use Rattle.std.proofs.ByRecursion.{All-append, All-map}
-use Rattle.std.specs.List.{AllByRecursion as All}
+use Rattle.std.specs.List.{AllByRecursion}
 use Rattle.layout.specs.Layout.{Layout, nothing, box, both, moved, turned, mirrored, row, column, cell}
 use Rattle.layout.specs.Numbers.{boxes}
 use Rattle.layout.specs.Rects.{move_rect, turn_rect, mirror_rect, copies, rects, Within}
@@ -27,20 +27,20 @@ rects-length (column n f a) = copies_length n 0 f (rects a) ∙ ap (λ k. n * k)
 rects-length (cell k) = refl
 
 -- how far boxes reach
-pub all_map_to : (P Q : Rect → Type 0) (f : Rect → Rect) → ((q : Rect) → P q → Q (f q)) → (qs : List Rect) → All P qs → All Q (map f qs)
+pub all_map_to : (P Q : Rect → Type 0) (f : Rect → Rect) → ((q : Rect) → P q → Q (f q)) → (qs : List Rect) → AllByRecursion P qs → AllByRecursion Q (map f qs)
 all_map_to P Q f h [] k = tt
 all_map_to P Q f h (q ∷ qs) k = (h q k.0, all_map_to P Q f h qs k.1)
 
-pub move_within : (m n r b : ℕ) → m + r ≤ n → m + b ≤ n → (qs : List Rect) → All (Within m) qs → All (Within n) (map (move_rect r b) qs)
+pub move_within : (m n r b : ℕ) → m + r ≤ n → m + b ≤ n → (qs : List Rect) → AllByRecursion (Within m) qs → AllByRecursion (Within n) (map (move_rect r b) qs)
 move_within m n r b h k = all_map_to (Within m) (Within n) (move_rect r b) (λ q w. (omega arith, omega arith))
 
-pub turn_within : (m n s : ℕ) → m ≤ n → s ≤ n → (qs : List Rect) → All (Within m) qs → All (Within n) (map (turn_rect s) qs)
+pub turn_within : (m n s : ℕ) → m ≤ n → s ≤ n → (qs : List Rect) → AllByRecursion (Within m) qs → AllByRecursion (Within n) (map (turn_rect s) qs)
 turn_within m n s h k = all_map_to (Within m) (Within n) (turn_rect s) (λ q w. (omega arith, omega arith))
 
-pub mirror_within : (m n s : ℕ) → m ≤ n → s ≤ n → (qs : List Rect) → All (Within m) qs → All (Within n) (map (mirror_rect s) qs)
+pub mirror_within : (m n s : ℕ) → m ≤ n → s ≤ n → (qs : List Rect) → AllByRecursion (Within m) qs → AllByRecursion (Within n) (map (mirror_rect s) qs)
 mirror_within m n s h k = all_map_to (Within m) (Within n) (mirror_rect s) (λ q w. (omega arith, omega arith))
 
-pub copies-within : (m n k r b : ℕ) → m + k * r ≤ n → m + k * b ≤ n → (qs : List Rect) → All (Within m) qs → All (Within n) (copies k r b qs)
+pub copies-within : (m n k r b : ℕ) → m + k * r ≤ n → m + k * b ≤ n → (qs : List Rect) → AllByRecursion (Within m) qs → AllByRecursion (Within n) (copies k r b qs)
 unfolding copies
 copies-within m n zero r b h i qs w = tt
 copies-within m n (suc k) r b h i qs w =

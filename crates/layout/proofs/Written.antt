@@ -2,7 +2,7 @@
 use Rattle.std.proofs.Common.{◌≡◌, ℕ, zero, suc, ◌+◌, ◌-◌, ◌^◌, ◌<◌, ◌≤◌, List, [], ◌∷◌, ◌++◌, map, length, get_or, take, drop, sym, ap, ◌∙◌, subst, zero-mul, arith}
 use Rattle.std.proofs.lemmas.List.{append-nil, append_assoc, take_at, drop_at, length-append, get_or-append_right, nil_from_length}
 use Rattle.std.proofs.ByRecursion.{All-get_or}
-use Rattle.std.specs.List.{AllWithin, AllByRecursion as All}
+use Rattle.std.specs.List.{AllWithin, AllByRecursion}
 use Rattle.layout.specs.Layout.{Layout, nothing, box, row, column}
 use Rattle.layout.specs.Numbers.{sixes, boxes}
 use Rattle.layout.specs.Nodes.{layout_of, Read}
@@ -26,10 +26,10 @@ module _ (items qs ys : List Rect) (s : ℕ) (at : s ≡ length items) (added : 
   pub tail-is : drop s ys ≡ qs
   tail-is = ap (drop s) added ∙ drop_at items qs s (sym at)
 
-  pub tail_within : All (Within (2 ^ 48)) qs → All (Within (2 ^ 48)) (drop s ys)
-  tail_within w = subst (λ (us : List Rect). All (Within (2 ^ 48)) us) (sym tail-is) w
+  pub tail_within : AllByRecursion (Within (2 ^ 48)) qs → AllByRecursion (Within (2 ^ 48)) (drop s ys)
+  tail_within w = subst (λ (us : List Rect). AllByRecursion (Within (2 ^ 48)) us) (sym tail-is) w
 
-  pub tail-every : (n : ℕ) → n ≡ length ys → All (Within (2 ^ 48)) qs → AllWithin (Within (2 ^ 48)) ys s n
+  pub tail-every : (n : ℕ) → n ≡ length ys → AllByRecursion (Within (2 ^ 48)) qs → AllWithin (Within (2 ^ 48)) ys s n
   tail-every n long w k d lo hi =
       let p : k - s < length qs = omega (arith, ap length added, length-append items qs) in
       subst (Within (2 ^ 48)) (sym (ap (λ us. get_or us k d) added ∙ get_or-append_right items qs s k d (sym at) lo)) (All-get_or (Within (2 ^ 48)) qs (k - s) d p w)

@@ -1,6 +1,6 @@
 // Changes of many boxes in place: each by itself, or copied.
 ghost use Rattle.std.specs.Prelude.{◌≡◌, ◌*◌, ◌^◌, ◌<◌, ◌≤◌, ◌++◌, map, take, drop, vec_len, OnOk};
-ghost use Rattle.std.specs.List.{AllWithin, between, AllByRecursion as All};
+ghost use Rattle.std.specs.List.{AllWithin, between, AllByRecursion};
 ghost use Rattle.layout.specs.Changes.{Mild, change_rect};
 ghost use Rattle.layout.specs.Rects.{Within, move_rect, copies};
 
@@ -30,7 +30,7 @@ impl Rect {
 }
 
 fn change_all(rects: &mut [Rect], by: Change)
-    requires within { All (Within (2 ^ 48)) rects.old }
+    requires within { AllByRecursion (Within (2 ^ 48)) rects.old }
     requires mild { Mild by }
     ensures { rects.new ≡ map (change_rect by) rects.old }
 {
@@ -42,7 +42,7 @@ fn change_all(rects: &mut [Rect], by: Change)
 /// Changes the boxes from a place on.
 pub(crate) fn change_tail(out: &mut Vec<Rect>, start: usize, by: Change)
     requires start { start ≤ vec_len out.old }
-    requires within { All (Within (2 ^ 48)) (drop start out.old.items) }
+    requires within { AllByRecursion (Within (2 ^ 48)) (drop start out.old.items) }
     requires mild { Mild by }
     ensures { out.new.items ≡ take start out.old.items ++ map (change_rect by) (drop start out.old.items) }
 {

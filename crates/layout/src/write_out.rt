@@ -1,6 +1,6 @@
 // A layout written out as the boxes that it draws.
 ghost use Rattle.std.specs.Prelude.{◌≡◌, ℕ, ◌^◌, ◌<◌, ◌≤◌, ◌++◌, IfOk, vec_len, OnOk};
-ghost use Rattle.std.specs.List.{AllByRecursion as All};
+ghost use Rattle.std.specs.List.{AllByRecursion};
 ghost use Rattle.layout.specs.Counts.{Counted};
 ghost use Rattle.layout.specs.Limits.{max_boxes};
 ghost use Rattle.layout.specs.Numbers.{layout_in, layout_refusal, sixes};
@@ -61,7 +61,7 @@ fn write_out(heap: Global, nodes: &[u64]) -> Result<Vec<Rect>, AllocError>
     requires { layout_refusal nodes.now ≡ 0 }
     ensures draws { IfOk result (λ v. (l x y : ℕ) → covered v.items l x y ≡ layout_in nodes.now l x y) }
     ensures few { IfOk result (λ v. vec_len v ≤ max_boxes) }
-    ensures near { IfOk result (λ v. All (Within (2 ^ 40)) v.items) }
+    ensures near { IfOk result (λ v. AllByRecursion (Within (2 ^ 40)) v.items) }
 {
     let counts = count_boxes(nodes);
     let mut out = Vec::new(heap);

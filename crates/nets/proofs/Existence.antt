@@ -1,6 +1,6 @@
 -- Every layout has nets: the spots below its bound, given one name after another where one can step over.
 use Rattle.std.proofs.Common.{◌≡◌, ℕ, zero, suc, ◌+◌, ◌<◌, Bool, true, false, cond, ◌&&◌, ◌||◌, eqb, ◌⊎◌, List, [], ◌∷◌, ◌++◌, sym, refl, ap, ◌∙◌, subst, inl, inr, arith}
-use Rattle.std.specs.List.{AllByRecursion as All}
+use Rattle.std.specs.List.{AllByRecursion}
 use Rattle.std.proofs.ByRecursion.{All-append}
 use Rattle.std.proofs.lemmas.Bool.{cases_Bool, cases_eq, and_parts, and_from, or_cases, or_left, or_right, eq-eqb, ne_eqb, eqb-true, both_ways, false≢true, cond-true, cond-false}
 use Rattle.layout.specs.Layout.{Drawing, drawn}
@@ -142,7 +142,7 @@ module _ (k : Technology) (d : Drawing) where
   Wire s = on (wire k d) s ≡ true
 
   names-sound :
-      (base : List Spot) → ((s : Spot) → Wire s → In s base) → (ps : List (Spot × Spot)) → All (λ p. Way k d p.0 p.1) ps →
+      (base : List Spot) → ((s : Spot) → Wire s → In s base) → (ps : List (Spot × Spot)) → AllByRecursion (λ p. Way k d p.0 p.1) ps →
       (a b : Spot) → Wire a → Wire b → names base ps a ≡ names base ps b → Way k d a b
   names-sound base all [] h a b wa wb e = subst (Way k d a) (place-one base a b (all a wa) (all b wb) e) (stays wa)
   names-sound base all (p ∷ ps) h a b wa wb e =
@@ -166,7 +166,7 @@ module _ (k : Technology) (d : Drawing) where
   abbrev link-if : Bool → Spot → Spot → List (Spot × Spot)
   link-if b s t = cond b ((s, t) ∷ []) []
 
-  link-way : (b : Bool) (s t : Spot) → (b ≡ true → Way k d s t) → All (λ p. Way k d p.0 p.1) (link-if b s t)
+  link-way : (b : Bool) (s t : Spot) → (b ≡ true → Way k d s t) → AllByRecursion (λ p. Way k d p.0 p.1) (link-if b s t)
   link-way true s t h = (h refl, tt)
   link-way false s t h = tt
 
@@ -207,7 +207,7 @@ module _ (k : Technology) (d : Drawing) where
       link-if (on (wire k d) s && on (wire k d) (at s.layer (suc s.x) s.y)) s (at s.layer (suc s.x) s.y)
       ++ (link-if (on (wire k d) s && on (wire k d) (at s.layer s.x (suc s.y))) s (at s.layer s.x (suc s.y)) ++ ups bound bound s)
 
-  ups-way : (bound n : ℕ) (s : Spot) → All (λ p. Way k d p.0 p.1) (ups bound n s)
+  ups-way : (bound n : ℕ) (s : Spot) → AllByRecursion (λ p. Way k d p.0 p.1) (ups bound n s)
   ups-way bound zero s = tt
   ups-way bound (suc m) s =
       All-append (λ p. Way k d p.0 p.1) (link-if ((on (wire k d) s && on (wire k d) (at m s.x s.y)) && joined_by bound s.layer m s.x s.y) s (at m s.x s.y)) (ups bound m s)
@@ -218,7 +218,7 @@ module _ (k : Technology) (d : Drawing) where
       through s (at m s.x s.y) j.0 (stays q.0) refl refl j.1 j.2 q.1))
       (ups-way bound m s)
 
-  links-way : (bound : ℕ) (s : Spot) → All (λ p. Way k d p.0 p.1) (links-at bound s)
+  links-way : (bound : ℕ) (s : Spot) → AllByRecursion (λ p. Way k d p.0 p.1) (links-at bound s)
   links-way bound s =
       All-append (λ p. Way k d p.0 p.1) (link-if (on (wire k d) s && on (wire k d) (at s.layer (suc s.x) s.y)) s (at s.layer (suc s.x) s.y)) _
       (link-way _ s (at s.layer (suc s.x) s.y) (λ h.
@@ -234,7 +234,7 @@ module _ (k : Technology) (d : Drawing) where
   links bound [] = []
   links bound (s ∷ ss) = links-at bound s ++ links bound ss
 
-  links-sound : (bound : ℕ) (ss : List Spot) → All (λ p. Way k d p.0 p.1) (links bound ss)
+  links-sound : (bound : ℕ) (ss : List Spot) → AllByRecursion (λ p. Way k d p.0 p.1) (links bound ss)
   links-sound bound [] = tt
   links-sound bound (s ∷ ss) = All-append (λ p. Way k d p.0 p.1) (links-at bound s) (links bound ss) (links-way bound s) (links-sound bound ss)
 

@@ -1,6 +1,6 @@
 -- Wire by layers: regions that show it, and tiles of one layer after another.
 use Rattle.std.proofs.Common.{◌≡◌, ℕ, ◌+◌, ◌^◌, ◌<◌, ◌≤◌, Bool, true, false, not, ◌&&◌, ◌||◌, eqb, ltb, leb, ◌⊎◌, List, [], ◌∷◌, ◌++◌, sym, refl, ap, ◌∙◌, subst, inl, inr, arith}
-use Rattle.std.specs.List.{AllByRecursion as All}
+use Rattle.std.specs.List.{AllByRecursion}
 use Rattle.std.proofs.ByRecursion.{All-append, All-weaker}
 use Rattle.std.proofs.lemmas.Bool.{cases_lt, cases_order, lt-ltb, le-ltb, eq-eqb, ne_eqb, and_left, and_right, or_from}
 use Rattle.layout.specs.declared.rect.Rect.{Rect}
@@ -21,14 +21,14 @@ use Rattle.nets.specs.Joins.{bridge, Bridges}
 
 -- boxes that are not far out cover nothing there
 
-far-across : (qs : List Rect) (l x y : ℕ) → All (Within (2 ^ 40)) qs → 2 ^ 40 ≤ x → covered qs l x y ≡ false
+far-across : (qs : List Rect) (l x y : ℕ) → AllByRecursion (Within (2 ^ 40)) qs → 2 ^ 40 ≤ x → covered qs l x y ≡ false
 unfolding covered in_rect
 far-across [] l x y h k = refl
 far-across (q ∷ qs) l x y h k =
     or_from _ _ (and_right (eqb l q.layer) _ (and_right (leb q.x x) _ (and_left (ltb x (q.x + q.across)) _ (le-ltb x (q.x + q.across) (omega (arith, h.0))))))
     (far-across qs l x y h.1 k)
 
-far-down : (qs : List Rect) (l x y : ℕ) → All (Within (2 ^ 40)) qs → 2 ^ 40 ≤ y → covered qs l x y ≡ false
+far-down : (qs : List Rect) (l x y : ℕ) → AllByRecursion (Within (2 ^ 40)) qs → 2 ^ 40 ≤ y → covered qs l x y ≡ false
 unfolding covered in_rect
 far-down [] l x y h k = refl
 far-down (q ∷ qs) l x y h k =
@@ -36,18 +36,18 @@ far-down (q ∷ qs) l x y h k =
     (far-down qs l x y h.1 k)
 
 -- what is near is within all that a sweep takes
-pub near-boxes : (qs : List Rect) → All (Within (2 ^ 40)) qs → All (Within (2 ^ 63)) qs
+pub near-boxes : (qs : List Rect) → AllByRecursion (Within (2 ^ 40)) qs → AllByRecursion (Within (2 ^ 63)) qs
 near-boxes qs h = All-weaker (Within (2 ^ 40)) (Within (2 ^ 63)) (λ q k. (omega arith, omega arith)) qs h
 
 -- a region that shows part of what is covered
 pub bounded_from : (bs : List Band) (s : ℕ → ℕ → Bool) → Shows bs s → ((x y : ℕ) → (2 ^ 40 ≤ x) ⊎ (2 ^ 40 ≤ y) → s x y ≡ false) → Bounded bs
 bounded_from bs s h far = record { across = λ x y k. h.shows x y ∙ far x y (inl k); down = λ x y k. h.shows x y ∙ far x y (inr k) }
 
-pub far-covered : (qs : List Rect) (l : ℕ) → All (Within (2 ^ 40)) qs → (x y : ℕ) → (2 ^ 40 ≤ x) ⊎ (2 ^ 40 ≤ y) → covered qs l x y ≡ false
+pub far-covered : (qs : List Rect) (l : ℕ) → AllByRecursion (Within (2 ^ 40)) qs → (x y : ℕ) → (2 ^ 40 ≤ x) ⊎ (2 ^ 40 ≤ y) → covered qs l x y ≡ false
 far-covered qs l h x y (inl k) = far-across qs l x y h k
 far-covered qs l h x y (inr k) = far-down qs l x y h k
 
-pub far-wire : (k : Technology) (qs : List Rect) (l : ℕ) → All (Within (2 ^ 40)) qs → (x y : ℕ) → (2 ^ 40 ≤ x) ⊎ (2 ^ 40 ≤ y) → wire k (covered qs) l x y ≡ false
+pub far-wire : (k : Technology) (qs : List Rect) (l : ℕ) → AllByRecursion (Within (2 ^ 40)) qs → (x y : ℕ) → (2 ^ 40 ≤ x) ⊎ (2 ^ 40 ≤ y) → wire k (covered qs) l x y ≡ false
 unfolding wire
 far-wire k qs l h x y o = and_right (k.carries l) _ (and_left (covered qs l x y) _ (far-covered qs l h x y o))
 
@@ -81,13 +81,13 @@ pub bridges_from :
 bridges_from k qs q a b c e f ts one other both layer all vs none cut =
     let same : ts ≡ cut.fresh = cut.adds ∙ ap (λ v. v ++ cut.fresh) none in
     record {
-      solid = subst (All _) (sym same) cut.ordered.solid;
-      layers = subst (All (λ b. b.layer ≡ q.by)) (sym same) cut.layers;
+      solid = subst (AllByRecursion _) (sym same) cut.ordered.solid;
+      layers = subst (AllByRecursion (λ b. b.layer ≡ q.by)) (sym same) cut.layers;
       holds = λ x y. ap (λ v. held v q.by x y) same ∙ (cut.holds q.by x y
           ∙ rw (eq-eqb q.by q.by refl) (all.holds x y ∙ rw (both.holds x y, one.shows x y, other.shows x y, layer x y)));
     }
 
-pub far-bridge : (k : Technology) (qs : List Rect) (q : Join) → All (Within (2 ^ 40)) qs → (x y : ℕ) → (2 ^ 40 ≤ x) ⊎ (2 ^ 40 ≤ y) → bridge k (covered qs) q x y ≡ false
+pub far-bridge : (k : Technology) (qs : List Rect) (q : Join) → AllByRecursion (Within (2 ^ 40)) qs → (x y : ℕ) → (2 ^ 40 ≤ x) ⊎ (2 ^ 40 ≤ y) → bridge k (covered qs) q x y ≡ false
 far-bridge k qs q h x y o = and_right (wire k (covered qs) q.one x y && wire k (covered qs) q.other x y) _ (far-covered qs q.by h x y o)
 
 pub shows-bridge :
@@ -98,13 +98,13 @@ shows-bridge k qs q a b c e f one other both layer all = record { shows = λ x y
 -- the tiles of the first n layers of a drawing
 pub record Layered (d : Drawing) (n : ℕ) (ts : List Tile) : Type 0 where
   pub ordered : Ordered ts
-  pub low : All (λ t. t.layer < n) ts
+  pub low : AllByRecursion (λ t. t.layer < n) ts
   pub holds : (l x y : ℕ) → held ts l x y ≡ (ltb l n && d l x y)
 
 pub layered_more : (d : Drawing) (n : ℕ) (bs : List Band) (ts us : List Tile) → Layered d n ts → Shows bs (d n) → Cut n bs ts us → Layered d (n + 1) us
 layered_more d n bs ts us old here cut = subst (Layered d (n + 1)) (sym cut.adds) (record {
   ordered = ordered-append ts cut.fresh old.ordered cut.ordered
-      (All-weaker (λ t. t.layer < n) (λ t. All (Before t) cut.fresh) (λ t h. All-weaker (λ u. u.layer ≡ n) (Before t) (λ u e. inl (omega arith)) cut.fresh cut.layers) ts old.low);
+      (All-weaker (λ t. t.layer < n) (λ t. AllByRecursion (Before t) cut.fresh) (λ t h. All-weaker (λ u. u.layer ≡ n) (Before t) (λ u e. inl (omega arith)) cut.fresh cut.layers) ts old.low);
   low = All-append (λ t. t.layer < n + 1) ts cut.fresh
       (All-weaker (λ t. t.layer < n) (λ t. t.layer < n + 1) (λ t h. omega arith) ts old.low)
       (All-weaker (λ t. t.layer ≡ n) (λ t. t.layer < n + 1) (λ t h. omega arith) cut.fresh cut.layers);

@@ -1,6 +1,6 @@
 -- What a join of two layers does to the names of tiles. Assumes nothing: these are definitions.
 use Rattle.std.specs.Prelude.{◌≡◌, ℕ, ◌<◌, Bool, true, ◌&&◌, ◌⊎◌, List, length}
-use Rattle.std.specs.List.{AllByRecursion as All}
+use Rattle.std.specs.List.{AllByRecursion}
 use Rattle.layout.specs.Layout.{Drawing}
 use Rattle.tiles.specs.declared.tile.Tile.{Tile}
 use Rattle.tiles.specs.Tiles.{tile_at, Holds, held, Solid}
@@ -15,8 +15,8 @@ bridge k d q x y = (wire k d q.one x y && wire k d q.other x y) && d q.by x y
 
 -- boxes of the joining layer that hold just these squares
 pub record Bridges (k : Technology) (d : Drawing) (q : Join) (bs : List Tile) : Type 0 where
-  pub solid : All Solid bs
-  pub layers : All (λ b. b.layer ≡ q.by) bs
+  pub solid : AllByRecursion Solid bs
+  pub layers : AllByRecursion (λ b. b.layer ≡ q.by) bs
   pub holds : (x y : ℕ) → held bs q.by x y ≡ bridge k d q x y
 
 -- the first square of a bridge lies on the i-th tile on one layer, and on the j-th on the other

@@ -1,6 +1,6 @@
 // The entry: numbers for spots by the nets that they are on.
 ghost use Rattle.std.specs.Prelude.{◌≡◌, ◌*◌, ◌^◌, length, MatchResult};
-ghost use Rattle.std.specs.List.{AllByRecursion as All};
+ghost use Rattle.std.specs.List.{AllByRecursion};
 ghost use Rattle.layout.specs.Rects.{Within, covered};
 ghost use Rattle.nets.specs.Processes.{technology_of};
 ghost use Rattle.nets.specs.Spots.{Counted};
@@ -27,7 +27,7 @@ pub enum Numbering {
     Memory,
 }
 
-// Numbers the spots by the nets of boxes. All memory is taken before the first number is written.
+// Numbers the spots by the nets of boxes. AllByRecursion memory is taken before the first number is written.
 fn number_boxes(
     heap: Global,
     boxes: &[Rect],
@@ -35,7 +35,7 @@ fn number_boxes(
     spots: &[u64],
     numbers: &mut [u64],
 ) -> Result<(), AllocError>
-    requires within { All (Within (2 ^ 40)) boxes.now }
+    requires within { AllByRecursion (Within (2 ^ 40)) boxes.now }
     requires asked { length spots.now ≡ 3 * length numbers.old }
     ensures { MatchResult result (λ _. (length numbers.new ≡ length numbers.old) × Counted (technology_of process.now) (covered boxes.now) spots.now (length numbers.old) numbers.new) (λ _. numbers.new ≡ numbers.old) }
 {

@@ -1,6 +1,6 @@
 // Joins between layers: the tiles of both layers under each bridge are one net.
 ghost use Rattle.std.specs.Prelude.{◌≡◌, ◌^◌, length, IfOk};
-ghost use Rattle.std.specs.List.{AllByRecursion as All};
+ghost use Rattle.std.specs.List.{AllByRecursion};
 ghost use Rattle.layout.specs.Rects.{Within, covered};
 ghost use Rattle.groups.specs.Names.{size, group};
 ghost use Rattle.groups.specs.Chains.{Grouped};
@@ -29,7 +29,7 @@ fn bridge_tiles(
     process: &Process,
     join: Join,
 ) -> Result<Vec<Tile>, AllocError>
-    requires { All (Within (2 ^ 40)) boxes.now }
+    requires { AllByRecursion (Within (2 ^ 40)) boxes.now }
     ensures { IfOk result (λ v. Bridges (technology_of process.now) (covered boxes.now) join v.items) }
 {
     let one = wire_region(heap, boxes, process, join.one)?;
@@ -67,7 +67,7 @@ pub fn connect(
     process: &Process,
     tiles: &[Tile],
 ) -> Result<Groups, AllocError>
-    requires within { All (Within (2 ^ 40)) boxes.now }
+    requires within { AllByRecursion (Within (2 ^ 40)) boxes.now }
     requires tiled { Tiled (wire (technology_of process.now) (covered boxes.now)) tiles.now }
     ensures { IfOk result (λ g. (size g ≡ length tiles.now) × Named (technology_of process.now) (covered boxes.now) tiles.now (group g)) }
 {

@@ -1,6 +1,6 @@
 // Wire: what is covered of a carrying layer, but on the crossed layer not under a gate.
 ghost use Rattle.std.specs.Prelude.{◌^◌, IfOk};
-ghost use Rattle.std.specs.List.{AllByRecursion as All};
+ghost use Rattle.std.specs.List.{AllByRecursion};
 ghost use Rattle.layout.specs.Rects.{Within, covered};
 ghost use Rattle.nets.specs.Nets.{wire};
 ghost use Rattle.nets.specs.Processes.{technology_of};
@@ -21,7 +21,7 @@ pub fn wire_region(
     process: &Process,
     layer: u64,
 ) -> Result<Region, AllocError>
-    requires { All (Within (2 ^ 40)) boxes.now }
+    requires { AllByRecursion (Within (2 ^ 40)) boxes.now }
     ensures { IfOk result (λ v. Shows v.bands.items (wire (technology_of process.now) (covered boxes.now) layer)) }
 {
     if !process.carries(layer) {
@@ -39,7 +39,7 @@ pub fn wire_region(
 
 // The wire of all layers, in tiles.
 pub fn wire_tiles(heap: Global, boxes: &[Rect], process: &Process) -> Result<Vec<Tile>, AllocError>
-    requires { All (Within (2 ^ 40)) boxes.now }
+    requires { AllByRecursion (Within (2 ^ 40)) boxes.now }
     ensures { IfOk result (λ v. Tiled (wire (technology_of process.now) (covered boxes.now)) v.items) }
 {
     let mut tiles = Vec::new(heap);

@@ -1,6 +1,6 @@
 // Regions made, and looked into.
 ghost use Rattle.std.specs.Prelude.{◌≡◌, ℕ, ◌^◌, ◌<◌, true, false, not, ◌&&◌, [], IfOk, nat_le, nat_lt};
-ghost use Rattle.std.specs.List.{AllByRecursion as All};
+ghost use Rattle.std.specs.List.{AllByRecursion};
 ghost use Rattle.layout.specs.Rects.{Within, covered};
 ghost use Rattle.scanline.specs.Edges.{edges_of};
 ghost use Rattle.scanline.specs.Bands.{covers, line_at, Canonical};
@@ -70,14 +70,14 @@ impl Region {
 
     // The squares that the boxes of a layer cover.
     pub fn from_boxes(heap: Global, boxes: &[Rect], layer: u64) -> Result<Region, AllocError>
-        requires { All (Within (2 ^ 63)) boxes.now }
+        requires { AllByRecursion (Within (2 ^ 63)) boxes.now }
         ensures { IfOk result (λ v. (x y : ℕ) → covers v.bands.items x y ≡ covered boxes.now layer x y) }
     {
         let bands = sweep(heap, boxes, layer)?;
         Ok(Region { bands })
     }
 
-    // All squares from a column and a row on.
+    // AllByRecursion squares from a column and a row on.
     pub fn quadrant(heap: Global, left: u64, top: u64) -> Result<Region, AllocError>
         ensures { IfOk result (λ v. (x y : ℕ) → covers v.bands.items x y ≡ (nat_le left x && nat_le top y)) }
     {
@@ -87,7 +87,7 @@ impl Region {
         Ok(Region { bands })
     }
 
-    // All squares that are not in it.
+    // AllByRecursion squares that are not in it.
     pub fn complement(&self, heap: Global) -> Result<Region, AllocError>
         ensures { IfOk result (λ v. (x y : ℕ) → covers v.bands.items x y ≡ not (covers self.now.bands.items x y)) }
     {

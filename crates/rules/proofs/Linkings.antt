@@ -1,6 +1,6 @@
 -- The rule that is held is the rule of its numbers, and boxes draw what settles. Assumes nothing.
 use Rattle.std.proofs.Common.{◌≡◌, ℕ, zero, suc, ◌+◌, ◌-◌, ◌*◌, ◌^◌, ◌<◌, ◌≤◌, Bool, true, false, not, ◌&&◌, ◌||◌, eqb, ltb, leb, ◌⊎◌, List, [], ◌∷◌, ◌++◌, length, get_or, drop, Some, None, Option, sym, refl, ap, ◌∙◌, subst, inl, inr, add-one, arith}
-use Rattle.std.specs.List.{AllByRecursion as All}
+use Rattle.std.specs.List.{AllByRecursion}
 use Rattle.std.proofs.lemmas.List.{drop_more, drop_all}
 use Rattle.std.proofs.lemmas.Bool.{cases_lt, le-leb, lt-leb, lt-ltb, le-ltb}
 use Rattle.std.proofs.lemmas.Bool.Decides.{nat_tests}
@@ -74,23 +74,23 @@ taken_is xs k n r h = record {
 }
 
 -- boxes that end by m cover nothing from there on
-past-column : (m : ℕ) (qs : List Rect) (l x y : ℕ) → All (Within m) qs → m ≤ x → covered qs l x y ≡ false
+past-column : (m : ℕ) (qs : List Rect) (l x y : ℕ) → AllByRecursion (Within m) qs → m ≤ x → covered qs l x y ≡ false
 unfolding covered in_rect
 past-column m [] l x y h k = refl
 past-column m (q ∷ qs) l x y h k = rw (past-column m qs l x y h.1 k, le-ltb x (q.x + q.across) (omega (arith, h.0.0))) (grind (arith, nat_tests))
 
-past_row : (m : ℕ) (qs : List Rect) (l x y : ℕ) → All (Within m) qs → m ≤ y → covered qs l x y ≡ false
+past_row : (m : ℕ) (qs : List Rect) (l x y : ℕ) → AllByRecursion (Within m) qs → m ≤ y → covered qs l x y ≡ false
 unfolding covered in_rect
 past_row m [] l x y h k = refl
 past_row m (q ∷ qs) l x y h k = rw (past_row m qs l x y h.1 k, le-ltb y (q.y + q.down) (omega (arith, h.0.1))) (grind (arith, nat_tests))
 
-pub settled_covered : (m : ℕ) (qs : List Rect) → All (Within m) qs → (l : ℕ) → Settled m (covered qs l)
+pub settled_covered : (m : ℕ) (qs : List Rect) → AllByRecursion (Within m) qs → (l : ℕ) → Settled m (covered qs l)
 settled_covered m qs h l = record {
   columns = λ x y k. past-column m qs l x y h k ∙ sym (past-column m qs l m y h (omega arith));
   rows = λ x y k. past_row m qs l x y h k ∙ sym (past_row m qs l x m h (omega arith));
 }
 
-pub shown_is : (qs : List Rect) (s : Layers) (r : Rule) (before wanted : List Bool) → All (Within (2 ^ 40)) qs → LayersMarked r before wanted → Swept (covered qs) wanted s → Shown (covered qs) (2 ^ 40) s r.terms r.len
+pub shown_is : (qs : List Rect) (s : Layers) (r : Rule) (before wanted : List Bool) → AllByRecursion (Within (2 ^ 40)) qs → LayersMarked r before wanted → Swept (covered qs) wanted s → Shown (covered qs) (2 ^ 40) s r.terms r.len
 shown_is qs s r before wanted h m w = record {
   near = omega arith;
   settles = settled_covered (2 ^ 40) qs h;

@@ -1,6 +1,6 @@
 // Layers swept, and looked up.
 ghost use Rattle.std.specs.Prelude.{◌≡◌, ℕ, ◌^◌, ◌<◌, ◌≤◌, true, false, length, IfOk};
-ghost use Rattle.std.specs.List.{AllByRecursion as All};
+ghost use Rattle.std.specs.List.{AllByRecursion};
 ghost use Rattle.layout.specs.Rects.{Within, covered};
 ghost use Rattle.scanline.specs.Bands.{covers};
 ghost use Rattle.rules.specs.Layers.{shows, Swept};
@@ -12,7 +12,7 @@ use std::alloc::{AllocError, Global};
 
 // The region of a layer, where it is wanted.
 fn sweep_layer(heap: Global, boxes: &[Rect], layer: u64, wanted: bool) -> Result<Region, AllocError>
-    requires { All (Within (2 ^ 40)) boxes.now }
+    requires { AllByRecursion (Within (2 ^ 40)) boxes.now }
     ensures { IfOk result (λ v. wanted ≡ true → (x y : ℕ) → covers v.bands.items x y ≡ covered boxes.now layer x y) }
 {
     if !wanted {
@@ -24,7 +24,7 @@ fn sweep_layer(heap: Global, boxes: &[Rect], layer: u64, wanted: bool) -> Result
 
 impl Layers {
     pub fn sweep(heap: Global, boxes: &[Rect], wanted: &[bool]) -> Result<Layers, AllocError>
-        requires { All (Within (2 ^ 40)) boxes.now }
+        requires { AllByRecursion (Within (2 ^ 40)) boxes.now }
         ensures { IfOk result (λ v. Swept (covered boxes.now) wanted.now v) }
     {
         let mut regions = Vec::new(heap);

@@ -1,7 +1,7 @@
 -- Lines moved to the right and to the left. Assumes nothing.
 use Rattle.std.proofs.Common.{◌≡◌, ℕ, suc, ◌+◌, ◌-◌, ◌^◌, ◌<◌, ◌≤◌, Bool, true, false, not, ◌&&◌, eqb, leb, ◌⊎◌, List, [], ◌∷◌, ◌++◌, length, get_or, take, drop, is_some, Some, None, Option, sym, refl, ap, ◌∙◌, subst, inl, inr, ⊎_elim, arith, take-append-drop}
 use Rattle.std.proofs.lemmas.List.{take_more, take_all, drop_more}
-use Rattle.std.specs.List.{AllByRecursion as All}
+use Rattle.std.specs.List.{AllByRecursion}
 use Rattle.std.proofs.ByRecursion.{All-get_or}
 use Rattle.std.proofs.lemmas.Bool.{cases_lt, cases_order, le-leb, lt-leb, eqb-true, eqb-false, false≢true}
 use Rattle.std.specs.Option.{option_to_list}
@@ -57,7 +57,7 @@ right-all n es out i l h = (
 below_at : (m : ℕ) (es : List ℕ) (i : ℕ) → i < length es → Below m es → get_or es i 0 ≤ m
 below_at m es i l b = All-get_or (λ e. e ≤ m) es i 0 l (to-all es b)
   where
-    to-all : (es : List ℕ) → Below m es → All (λ e. e ≤ m) es
+    to-all : (es : List ℕ) → Below m es → AllByRecursion (λ e. e ≤ m) es
     to-all [] b = tt
     to-all (e ∷ es) b = (b.0, to-all es b.1)
 

@@ -1,6 +1,6 @@
 -- The spans of a layer's boxes, in the order of their rows. Assumes nothing.
 use Rattle.std.proofs.Common.{◌≡◌, ℕ, zero, suc, ◌+◌, ◌-◌, ◌*◌, ◌<◌, ◌≤◌, min, Bool, true, false, cond, not, ◌&&◌, ◌||◌, eqb, ltb, leb, ◌⊎◌, List, [], ◌∷◌, ◌++◌, length, get_or, take, drop, sym, refl, ap, ◌∙◌, subst, inl, inr, ⊎_elim, add-one, arith, take-append-drop}
-use Rattle.std.specs.List.{AllByRecursion as All}
+use Rattle.std.specs.List.{AllByRecursion}
 use Rattle.std.proofs.lemmas.List.{take_more, take_all}
 use Rattle.std.specs.List.Sorted.{IsPermutation}
 use Rattle.std.proofs.lemmas.List.Sorted.{IsPermutation-sym, IsPermutation-keeps}
@@ -45,12 +45,12 @@ covers-push ss s x y = covers-append ss (s ∷ []) x y ∙ ap (λ b. any_covers 
 abbrev covers_at : Span → ℕ → ℕ → Bool
 covers_at s x y = across s x && (leb s.top y && ltb y s.bottom)
 
-none-all : (ss : List Span) (x y : ℕ) → any_covers ss x y ≡ false → All (λ s. covers_at s x y ≡ false) ss
+none-all : (ss : List Span) (x y : ℕ) → any_covers ss x y ≡ false → AllByRecursion (λ s. covers_at s x y ≡ false) ss
 unfolding any_covers
 none-all [] x y h = tt
 none-all (s ∷ ss) x y h = let k = or_parts (covers_at s x y) (any_covers ss x y) h in (k.0, none-all ss x y k.1)
 
-all_none : (ss : List Span) (x y : ℕ) → All (λ s. covers_at s x y ≡ false) ss → any_covers ss x y ≡ false
+all_none : (ss : List Span) (x y : ℕ) → AllByRecursion (λ s. covers_at s x y ≡ false) ss → any_covers ss x y ≡ false
 unfolding any_covers
 all_none [] x y h = refl
 all_none (s ∷ ss) x y h = or_from (covers_at s x y) (any_covers ss x y) h.0 (all_none ss x y h.1)
@@ -69,7 +69,7 @@ shuffled_covers xs ys x y h =
 abbrev pub Upto : Span → Span → Type 0
 Upto a b = (a.top < b.top) ⊎ ((a.top ≡ b.top) × (a.left ≤ b.left))
 
-pub rows-from : (p : ℕ) (ss : List Span) → All Solid ss → (0 < length ss → p ≤ (get_or ss 0 no_span).top) → ((i : ℕ) → i + 1 < length ss → Upto (get_or ss i no_span) (get_or ss (i + 1) no_span)) → ByRows p ss
+pub rows-from : (p : ℕ) (ss : List Span) → AllByRecursion Solid ss → (0 < length ss → p ≤ (get_or ss 0 no_span).top) → ((i : ℕ) → i + 1 < length ss → Upto (get_or ss i no_span) (get_or ss (i + 1) no_span)) → ByRows p ss
 rows-from p [] a l h = tt
 rows-from p (s ∷ []) a l h = (l (omega arith), a.0, tt, tt)
 rows-from p (s ∷ t ∷ ts) a l h =

@@ -1,6 +1,6 @@
 // Spans in the order of their rows.
 ghost use Rattle.std.specs.Prelude.{◌≡◌, ℕ, ◌^◌, ◌<◌, ◌≤◌, length, IfOk, ◌≢◌, slice_index_or};
-ghost use Rattle.std.specs.List.{AllByRecursion as All};
+ghost use Rattle.std.specs.List.{AllByRecursion};
 ghost use Rattle.layout.specs.Rects.{Within, covered};
 ghost use Rattle.scanline.specs.Spans.{Spanned, ByRows, any_covers, Solid, no_span};
 
@@ -26,8 +26,8 @@ fn span_of(b: Rect, layer: u64) -> Option<Span>
 
 // The spans of the boxes of a layer.
 fn spans_of(heap: Global, boxes: &[Rect], layer: u64) -> Result<Vec<Span>, AllocError>
-    requires { All (Within (2 ^ 63)) boxes.now }
-    ensures solid { IfOk result (λ v. All Solid v.items) }
+    requires { AllByRecursion (Within (2 ^ 63)) boxes.now }
+    ensures solid { IfOk result (λ v. AllByRecursion Solid v.items) }
     ensures covers { IfOk result (λ v. (x y : ℕ) → any_covers v.items x y ≡ covered boxes.now layer x y) }
 {
     let mut out = Vec::new(heap);
@@ -41,12 +41,12 @@ fn spans_of(heap: Global, boxes: &[Rect], layer: u64) -> Result<Vec<Span>, Alloc
 
 // The spans of the boxes of a layer, from above, and those of a row from the left.
 pub fn by_rows(heap: Global, boxes: &[Rect], layer: u64) -> Result<Vec<Span>, AllocError>
-    requires { All (Within (2 ^ 63)) boxes.now }
+    requires { AllByRecursion (Within (2 ^ 63)) boxes.now }
     ensures rows { IfOk result (λ v. ByRows 0 v.items) }
     ensures covers { IfOk result (λ v. (x y : ℕ) → any_covers v.items x y ≡ covered boxes.now layer x y) }
 {
     let mut spans = spans_of(heap, boxes, layer)?;
-    spans.sort();
+    spans.sort_unstable();
     Ok(spans)
 }
 

@@ -1,6 +1,6 @@
 // The sweep: spans in the order of their rows, a line moved from edge to edge.
 ghost use Rattle.std.specs.Prelude.{◌≡◌, ℕ, ◌^◌, IfOk};
-ghost use Rattle.std.specs.List.{AllByRecursion as All};
+ghost use Rattle.std.specs.List.{AllByRecursion};
 ghost use Rattle.layout.specs.Rects.{Within, covered};
 ghost use Rattle.scanline.specs.Bands.{Canonical, covers};
 ghost use Rattle.scanline.specs.Spans.{ByRows, any_covers};
@@ -35,7 +35,7 @@ fn sweep_spans(heap: Global, spans: &[Span]) -> Result<Vec<Band>, AllocError>
 
 // The bands of the squares that the boxes of a layer cover.
 pub fn sweep(heap: Global, boxes: &[Rect], layer: u64) -> Result<Vec<Band>, AllocError>
-    requires { All (Within (2 ^ 63)) boxes.now }
+    requires { AllByRecursion (Within (2 ^ 63)) boxes.now }
     ensures canonical { IfOk result (λ v. Canonical v.items) }
     ensures covers { IfOk result (λ v. (x y : ℕ) → covers v.items x y ≡ covered boxes.now layer x y) }
 {

@@ -1,6 +1,6 @@
 -- The tiles of a region are in order, and hold what it covers.
 use Rattle.std.proofs.Common.{◌≡◌, ℕ, suc, ◌+◌, ◌-◌, ◌^◌, ◌<◌, ◌≤◌, Bool, true, false, cond, ◌&&◌, ◌||◌, eqb, ltb, leb, List, [], ◌∷◌, ◌++◌, length, get_or, take, drop, sym, refl, ap, ◌∙◌, inl, inr, arith}
-use Rattle.std.specs.List.{AllByRecursion as All}
+use Rattle.std.specs.List.{AllByRecursion}
 use Rattle.std.proofs.lemmas.List.{append-nil, append_assoc, take_rest}
 use Rattle.std.proofs.ByRecursion.{All-append, All-weaker}
 use Rattle.std.proofs.lemmas.Bool.{cases_lt, cases_Bool, le-leb, lt-leb, lt-ltb, le-ltb, both_ways, true≢false}
@@ -56,12 +56,12 @@ twice true = refl
 twice false = refl
 
 -- past all its edges a line with an odd number of them goes on
-odd-inside : (es : List ℕ) (x : ℕ) → All (λ e. e ≤ x) es → even es ≡ false → inside es x ≡ true
+odd-inside : (es : List ℕ) (x : ℕ) → AllByRecursion (λ e. e ≤ x) es → even es ≡ false → inside es x ≡ true
 odd-inside [] x h e = absurd (true≢false e)
 odd-inside (a ∷ []) x h e = rw (le-leb a x h.0)
 odd-inside (a ∷ (b ∷ es)) x h e = rw (le-leb a x h.0, le-leb b x h.1.0) (twice (inside es x) ∙ odd-inside es x h.1.1 e)
 
-above : (es : List ℕ) → (m : ℕ) × All (λ e. e ≤ m) es
+above : (es : List ℕ) → (m : ℕ) × AllByRecursion (λ e. e ≤ m) es
 above [] = (0, tt)
 above (e ∷ es) =
     let p = above es in
@@ -111,7 +111,7 @@ line-held l t b p (e ∷ (f ∷ es)) h v k x y =
 
 -- bands whose lines end, down to one that is empty
 pub record Ending (b : Band) (bs : List Band) : Type 0 where
-  pub evens : All (λ c. even (edges c) ≡ true) (b ∷ bs)
+  pub evens : AllByRecursion (λ c. even (edges c) ≡ true) (b ∷ bs)
   pub last : lastLine (edges b) bs ≡ []
 
 upper : (a p i j : Bool) → ((a && (p && (true && i))) || (a && (false && j))) ≡ (a && (p && i))
@@ -148,11 +148,11 @@ band_held l b (c ∷ cs) h v k x y =
 
 -- bounded regions end
 
-late : (line : List ℕ) (bs : List Band) (y : ℕ) → All (λ b. b.from ≤ y) bs → line_at line bs y ≡ lastLine line bs
+late : (line : List ℕ) (bs : List Band) (y : ℕ) → AllByRecursion (λ b. b.from ≤ y) bs → line_at line bs y ≡ lastLine line bs
 late line [] y h = refl
 late line (b ∷ bs) y h = rw (le-leb b.from y h.0) (late (edges b) bs y h.1)
 
-last_row : (bs : List Band) → (m : ℕ) × All (λ b. b.from ≤ m) bs
+last_row : (bs : List Band) → (m : ℕ) × AllByRecursion (λ b. b.from ≤ m) bs
 last_row [] = (0, tt)
 last_row (b ∷ bs) =
     let p = last_row bs in
@@ -163,7 +163,7 @@ last-from line [] h = h
 last-from line (b ∷ bs) h = last-from (edges b) bs (rises-from 0 (edges b) b.line.sorted)
 
 lines-even :
-    (line : List ℕ) (p m : ℕ) (bs : List Band) → rows.From p bs → ((x y : ℕ) → m ≤ x → inside (line_at line bs y) x ≡ false) → All (λ b. even (edges b) ≡ true) bs
+    (line : List ℕ) (p m : ℕ) (bs : List Band) → rows.From p bs → ((x y : ℕ) → m ≤ x → inside (line_at line bs y) x ≡ false) → AllByRecursion (λ b. even (edges b) ≡ true) bs
 lines-even line p m [] h none = tt
 lines-even line p m (b ∷ bs) h none =
     let here : (x : ℕ) → m ≤ x → inside (edges b) x ≡ false =
@@ -188,7 +188,7 @@ last_empty bs m none =
 abbrev InLine : (l t b p : ℕ) → Tile → Type 0
 InLine l t b p s = (s.layer ≡ l) × (s.top ≡ t) × (s.bottom ≡ b) × (p ≤ s.left)
 
-line-in : (l t b p : ℕ) (es : List ℕ) → From p es → All (InLine l t b p) (line_tiles l t b es)
+line-in : (l t b p : ℕ) (es : List ℕ) → From p es → AllByRecursion (InLine l t b p) (line_tiles l t b es)
 line-in l t b p [] h = tt
 line-in l t b p (e ∷ []) h = tt
 line-in l t b p (e ∷ (f ∷ es)) h =
@@ -203,7 +203,7 @@ line-ascends l t b p (e ∷ (f ∷ es)) h = (
   line-ascends l t b (suc f) es h.1.1,
 )
 
-line-solid : (l t b p : ℕ) (es : List ℕ) → t < b → From p es → All Solid (line_tiles l t b es)
+line-solid : (l t b p : ℕ) (es : List ℕ) → t < b → From p es → AllByRecursion Solid (line_tiles l t b es)
 line-solid l t b p [] k h = tt
 line-solid l t b p (e ∷ []) k h = tt
 line-solid l t b p (e ∷ (f ∷ es)) k h = (record { wide = omega arith; tall = k }, line-solid l t b (suc f) es k h.1.1)
@@ -215,7 +215,7 @@ InRows l t s = (s.layer ≡ l) × (t ≤ s.top)
 edges-from : (b : Band) → From 0 (edges b)
 edges-from b = rises-from 0 (edges b) b.line.sorted
 
-bands_in : (l p : ℕ) (bs : List Band) → rows.From p bs → All (InRows l p) (band_tiles l bs)
+bands_in : (l p : ℕ) (bs : List Band) → rows.From p bs → AllByRecursion (InRows l p) (band_tiles l bs)
 bands_in l p [] h = tt
 bands_in l p (b ∷ []) h = tt
 bands_in l p (b ∷ (c ∷ bs)) h =
@@ -228,11 +228,11 @@ bands_ascend l p [] h = tt
 bands_ascend l p (b ∷ []) h = tt
 bands_ascend l p (b ∷ (c ∷ bs)) h =
     ascending_append (line_tiles l b.from c.from (edges b)) (band_tiles l (c ∷ bs)) (line-ascends l b.from c.from 0 (edges b) (edges-from b)) (bands_ascend l (suc b.from) (c ∷ bs) h.1)
-    (All-weaker (InLine l b.from c.from 0) (λ s. All (Before s) (band_tiles l (c ∷ bs)))
+    (All-weaker (InLine l b.from c.from 0) (λ s. AllByRecursion (Before s) (band_tiles l (c ∷ bs)))
     (λ s k. All-weaker (InRows l c.from) (Before s) (λ r m. inr (k.0 ∙ sym m.0, inl (omega arith))) (band_tiles l (c ∷ bs)) (bands_in l c.from (c ∷ bs) (omega arith, h.1.1)))
     _ (line-in l b.from c.from 0 (edges b) (edges-from b)))
 
-bands_solid : (l p : ℕ) (bs : List Band) → rows.From p bs → All Solid (band_tiles l bs)
+bands_solid : (l p : ℕ) (bs : List Band) → rows.From p bs → AllByRecursion Solid (band_tiles l bs)
 bands_solid l p [] h = tt
 bands_solid l p (b ∷ []) h = tt
 bands_solid l p (b ∷ (c ∷ bs)) h =

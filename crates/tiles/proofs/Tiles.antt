@@ -1,6 +1,6 @@
 -- Tiles by their places in a list: what holds a square, and what comes before what.
 use Rattle.std.proofs.Common.{◌≡◌, ℕ, zero, suc, ◌+◌, ◌<◌, ◌≤◌, Bool, true, false, ◌||◌, leb, List, [], ◌∷◌, ◌++◌, length, Decides, sym, refl, subst, inl, inr, arith}
-use Rattle.std.specs.List.{AllByRecursion as All}
+use Rattle.std.specs.List.{AllByRecursion}
 use Rattle.std.proofs.lemmas.List.{get_or_past}
 use Rattle.std.proofs.ByRecursion.{All-get_or, All-append}
 use Rattle.std.proofs.lemmas.Bool.{cases_lt, cases_order, or_cases, or_left, or_right, leb-true, le-leb, false≢true}
@@ -58,11 +58,11 @@ before_at (t ∷ ts) i zero h l k = absurd (omega arith)
 before_at (t ∷ ts) zero (suc j) h l k = All-get_or (Before t) ts j none (omega arith) h.0
 before_at (t ∷ ts) (suc i) (suc j) h l k = before_at ts i j h.1 (omega arith) (omega arith)
 
-pub ascending_append : (ss ts : List Tile) → Ascending ss → Ascending ts → All (λ s. All (Before s) ts) ss → Ascending (ss ++ ts)
+pub ascending_append : (ss ts : List Tile) → Ascending ss → Ascending ts → AllByRecursion (λ s. AllByRecursion (Before s) ts) ss → Ascending (ss ++ ts)
 ascending_append [] ts a b h = b
 ascending_append (s ∷ ss) ts a b h = (All-append (Before s) ss ts a.0 h.0, ascending_append ss ts a.1 b h.1)
 
-pub ordered-append : (ss ts : List Tile) → Ordered ss → Ordered ts → All (λ s. All (Before s) ts) ss → Ordered (ss ++ ts)
+pub ordered-append : (ss ts : List Tile) → Ordered ss → Ordered ts → AllByRecursion (λ s. AllByRecursion (Before s) ts) ss → Ordered (ss ++ ts)
 ordered-append ss ts a b h = record {
   solid = All-append Solid ss ts a.solid b.solid;
   before = ascending_append ss ts a.before b.before h;

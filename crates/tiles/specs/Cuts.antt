@@ -1,6 +1,6 @@
 -- The tiles of a region: the intervals of its bands. Assumes nothing.
 use Rattle.std.specs.Prelude.{◌≡◌, ℕ, ◌^◌, ◌≤◌, false, ◌&&◌, List, [], ◌∷◌, ◌++◌, ◌==◌}
-use Rattle.std.specs.List.{AllByRecursion as All}
+use Rattle.std.specs.List.{AllByRecursion}
 use Rattle.scanline.specs.declared.band.Band.{Band}
 use Rattle.scanline.specs.Bands.{edges, covers}
 use Rattle.tiles.specs.declared.tile.Tile.{Tile}
@@ -32,5 +32,5 @@ pub record Cut (layer : ℕ) (bs : List Band) (before after : List Tile) : Type 
   pub fresh : List Tile
   pub adds : after ≡ before ++ fresh
   pub ordered : Ordered fresh
-  pub layers : All (λ t. t.layer ≡ layer) fresh
+  pub layers : AllByRecursion (λ t. t.layer ≡ layer) fresh
   pub holds : (l x y : ℕ) → held fresh l x y ≡ (l == layer && covers bs x y)

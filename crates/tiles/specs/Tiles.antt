@@ -1,6 +1,6 @@
 -- Tiles: boxes of one layer, which squares they hold, and lists of them in order. Assumes nothing.
 use Rattle.std.specs.Prelude.{◌≡◌, ℕ, ◌<◌, ◌≤◌, Bool, false, ◌&&◌, ◌||◌, ◌⊎◌, List, [], ◌∷◌, Some, None, Option, ◌==◌, nat_le, nat_lt, slice_index_or}
-use Rattle.std.specs.List.{AllByRecursion as All}
+use Rattle.std.specs.List.{AllByRecursion}
 use Rattle.tiles.specs.declared.tile.Tile.{Tile}
 
 -- a tile without squares, which stands past the end of a list
@@ -39,10 +39,10 @@ Before a b =
 -- each comes before all that follow
 abbrev pub Ascending : List Tile → Type 0
 Ascending [] = Unit {0}
-Ascending (t ∷ ts) = All (Before t) ts × Ascending ts
+Ascending (t ∷ ts) = AllByRecursion (Before t) ts × Ascending ts
 
 pub record Ordered (ts : List Tile) : Type 0 where
-  pub solid : All Solid ts
+  pub solid : AllByRecursion Solid ts
   pub before : Ascending ts
 
 -- the tile begins at or before the square, in the order of tiles

@@ -1,5 +1,5 @@
 use Rattle.std.proofs.Common.{◌≡◌, map, vec_items, rules}
-use Rattle.std.specs.List.{AllByRecursion as All}
+use Rattle.std.specs.List.{AllByRecursion}
 use Rattle.std.proofs.lemmas.Result.{err_from_is_err_and}
 use Rattle.layout.specs.Numbers.{layout_in}
 use Rattle.layout.specs.Rects.{covered}
@@ -43,7 +43,7 @@ returns c =
     let wanted = vec_items c.mark-deck.new.wanted in
     let d : covered boxes ≡ layout_in xs = same-drawing _ _ written.3 in
     let w : Swept (covered boxes) wanted layers = rw (c.as-slice-2.ensures.value, c.as-slice-3.ensures.value) at c.in-ok-layers.ensures in
-    let m : All (Marks wanted) rules = rw c.as-slice.ensures.value at c.mark-deck.ensures in
+    let m : AllByRecursion (Marks wanted) rules = rw c.as-slice.ensures.value at c.mark-deck.ensures in
     let b : Each (Breaking layers) rules (vec_items c.in-ok-regions.regions) = rw c.as-slice-4.ensures.value at c.in-ok-regions.ensures in (
       written.0,
       each_on Held (Breaking layers) (Marks wanted) (BrokenBy xs) (judged xs boxes layers wanted d written.2 w) (map rule-of c.args.deck.now) rules (vec_items c.in-ok-regions.regions) c.in-ok-rules.ensures m b,

@@ -1,6 +1,6 @@
 -- Why `add_side` meets its contract.
 use Rattle.std.proofs.Common.{◌≡◌, length, vec_items, sym, subst}
-use Rattle.std.specs.List.{AllByRecursion as All}
+use Rattle.std.specs.List.{AllByRecursion}
 use Rattle.devices.specs.Borders.{Near}
 use Rattle.devices.specs.Crossings.{Adding}
 use Rattle.devices.proofs.Borders.{meeting-bounded, meeting-from, meeting-near}
@@ -13,7 +13,7 @@ add-region-requires c =
 pub add-borders-requires : goal.add-borders-requires
 add-borders-requires c = record {
   laid = c.requires;
-  near = subst (All Near) (sym c.as-slice.ensures.value)
+  near = subst (AllByRecursion Near) (sym c.as-slice.ensures.value)
       (meeting-near c.args.direction c.args.crossing.now.layer (vec_items c.args.crossing.now.channel.bands) (vec_items c.args.crossing.now.wire.bands) _ c.in-ok-region.ensures c.requires.channel
       (vec_items c.new-meetings.result) (vec_items c.add-region.new.tiles) c.new-meetings.ensures.items c.in-ok-add-region.ensures);
 }

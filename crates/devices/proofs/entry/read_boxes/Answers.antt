@@ -1,6 +1,6 @@
 -- Why `read_boxes` meets its contract.
 use Rattle.std.proofs.Common.{◌≡◌, ℕ, ◌<◌, length, vec_items, vec_len, sym, ◌∙◌, subst}
-use Rattle.std.specs.List.{AllByRecursion as All}
+use Rattle.std.specs.List.{AllByRecursion}
 use Rattle.layout.specs.Rects.{covered}
 use Rattle.nets.specs.Processes.{technology_of}
 use Rattle.devices.specs.Terminals.{Gathered}
@@ -11,8 +11,8 @@ use Rattle.devices.proofs.entry.read_boxes.Goals as goal
 pub gather-requires : goal.gather-requires
 gather-requires c =
     let cr = c.in-ok-crossing.crossing in
-    subst (λ n. All (λ b. b.channel < n) c.as-slice.result.now) (sym cr.channels.tiles.ok.0 ∙ sym c.len-count.ensures)
-    (subst (λ v. All (λ b. b.channel < length (vec_items cr.channels.tiles)) v) (sym c.as-slice.ensures.value)
+    subst (λ n. AllByRecursion (λ b. b.channel < n) c.as-slice.result.now) (sym cr.channels.tiles.ok.0 ∙ sym c.len-count.ensures)
+    (subst (λ v. AllByRecursion (λ b. b.channel < length (vec_items cr.channels.tiles)) v) (sym c.as-slice.ensures.value)
     (few-channels (technology_of c.args.process.now) (covered c.args.boxes.now) cr c.in-ok-crossing.ensures (vec_items c.in-ok-borders.borders) c.in-ok-borders.ensures))
 
 pub returns : goal.returns

@@ -1,6 +1,6 @@
 -- What `write_out` needs beyond what the search finds.
 use Rattle.std.proofs.Common.{◌≡◌, ◌+◌, ◌-◌, ◌/◌, ◌^◌, List, ◌++◌, length, vec_items, sym, ap, ◌∙◌, subst, arith}
-use Rattle.std.specs.List.{AllByRecursion as All}
+use Rattle.std.specs.List.{AllByRecursion}
 use Rattle.layout.specs.Numbers.{sixes, boxes}
 use Rattle.layout.specs.Pieces.{piece}
 use Rattle.layout.specs.Rects.{rects, covered, Within}
@@ -32,5 +32,5 @@ returns c =
     record {
       draws = λ l x y. ap (λ (qs : List Rect). covered qs l x y) made ∙ draws xs s p last l x y;
       few = omega (arith, c.put.new.out.ok.0, ap length made, rects-length (piece xs p), few-of xs s p last k.1);
-      near = subst (λ (qs : List Rect). All (Within (2 ^ 40)) qs) (sym made) (piece-near xs s p (omega arith));
+      near = subst (λ (qs : List Rect). AllByRecursion (Within (2 ^ 40)) qs) (sym made) (piece-near xs s p (omega arith));
     }

@@ -1,6 +1,6 @@
 -- Why `number_nets` meets its contract.
 use Rattle.std.proofs.Common.{◌^◌, length, vec_items, sym, refl, ◌∙◌, subst}
-use Rattle.std.specs.List.{AllByRecursion as All}
+use Rattle.std.specs.List.{AllByRecursion}
 use Rattle.std.proofs.lemmas.Result.{err_from_is_err_and}
 use Rattle.layout.specs.Rects.{Within, covered}
 use Rattle.nets.specs.Processes.{technology_of}
@@ -40,7 +40,7 @@ returns-in-err-number-boxes c =
 
 pub number-boxes-requires : goal.number-boxes-requires
 number-boxes-requires c = record {
-  within = subst (λ v. All (Within (2 ^ 40)) v) (sym c.as-slice.ensures.value) c.in-ok-boxes.ensures.2;
+  within = subst (λ v. AllByRecursion (Within (2 ^ 40)) v) (sym c.as-slice.ensures.value) c.in-ok-boxes.ensures.2;
   asked = spots-threes _ _ c.in-default.ensures;
 }
 

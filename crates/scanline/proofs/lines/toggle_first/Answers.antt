@@ -10,4 +10,4 @@ returns-in-0 c =
     let es = c.args.edges.now in
     let some : 0 < length es = search rules in
     let zero-first : get_or es 0 0 ≡ 0 = search rules in
-    IfOk-weaker c.from-slice.result _ _ (λ v h. h.0 ∙ take_rest es 1 ∙ toggled-zero es some zero-first) c.from-slice.ensures.made
+    IfOk-weaker c.from_slice.result _ _ (λ v h. h ∙ take_rest es 1 ∙ toggled-zero es some zero-first) c.from_slice.ensures.items

@@ -9,9 +9,9 @@ pub loop-span-smaller : goal.loop-span-smaller
 loop-span-smaller c = picked_less _ _ _ _ _ c.in-Some.ensures
 
 pub loop-span-preserved : goal.loop-span-preserved
-loop-span-preserved c = advance-more _ _ _ _ _ c.in-Some.span c.in-ok-keep.ensures _ _ _ _ c.in-Some.ensures c.loop-span.invariant
+loop-span-preserved c = advance-more _ _ _ _ _ c.in-Some.span c.in_ok-keep.ensures _ _ _ _ c.in-Some.ensures c.loop-span.invariant
 
 pub returns : goal.returns
 returns c =
-    let e = c.in-default.ensures in
+    let e = c.in_default.ensures in
     advance_all _ _ _ _ (rw (e.0, e.1) at c.loop-span.invariant)

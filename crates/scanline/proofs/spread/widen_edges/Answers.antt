@@ -4,19 +4,19 @@ use Rattle.scanline.proofs.Widens.{opening, opened, joined, closed, ended-all, e
 use Rattle.scanline.proofs.spread.widen_edges.Goals as goal
 
 pub loop-rest-init : goal.loop-rest-init
-loop-rest-init c = rw c.in-ok-out.ensures.items (opening c.args.by c.args.edges.now c.requires)
+loop-rest-init c = rw c.in_ok-out.ensures.items (opening c.args.by c.args.edges.now c.requires)
 
 pub loop-rest-preserved-then-not-within : goal.loop-rest-preserved-then-not-within
 loop-rest-preserved-then-not-within c =
     let rest = c.loop-rest.rest.now in
     let some : 0 < length rest = search rules in
-    rw (c.in-ok-push.ensures.items, take_rest rest 1) (opened _ _ _ rest some (rw c.if-not-within.true at c.loop-rest.invariant))
+    rw (c.in_ok-push.ensures.items, take_rest rest 1) (opened _ _ _ rest some (rw c.if-not-within.true at c.loop-rest.invariant))
 
-pub returns-in-default-checked-add : goal.returns-in-default-checked-add
-returns-in-default-checked-add c =
+pub returns-in_default-checked_add : goal.returns-in_default-checked_add
+returns-in_default-checked_add c =
     let rest = c.loop-rest.rest.now in
     let some : 0 < length rest = search rules in
-    ended-far _ _ _ rest some c.in-default-checked-add.ensures c.requires (rw c.if-not-within.false at c.loop-rest.invariant)
+    ended-far _ _ _ rest some c.in_default-checked_add.ensures c.requires (rw c.if-not-within.false at c.loop-rest.invariant)
 
 pub loop-rest-preserved-then-reaches : goal.loop-rest-preserved-then-reaches
 loop-rest-preserved-then-reaches c =
@@ -30,7 +30,7 @@ loop-rest-preserved c =
     let rest = c.loop-rest.rest.now in
     let some : 0 < length rest = search rules in
     let r = rw (take_rest rest 1, c.in-Some.ensures.1) at (sym c.reaches.ensures ∙ c.if-reaches.false) in
-    rw (c.in-ok-push-2.ensures.items, take_rest rest 1, c.in-Some.ensures.1) (closed _ _ _ rest some r (rw c.if-not-within.false at c.loop-rest.invariant))
+    rw (c.in_ok-push-2.ensures.items, take_rest rest 1, c.in-Some.ensures.1) (closed _ _ _ rest some r (rw c.if-not-within.false at c.loop-rest.invariant))
 
 pub returns : goal.returns
 returns c =

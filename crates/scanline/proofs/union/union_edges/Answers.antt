@@ -2,10 +2,10 @@ use Rattle.std.proofs.Common.{◌≡◌, ◌<◌, List, [], length, drop, vec_it
 use Rattle.std.proofs.lemmas.List.{take_rest, nil_from_length}
 use Rattle.scanline.proofs.Unions.{Uniting, unite_none, unite_start, unite_at, unite-gap, unite-join, unite_end}
 use Rattle.scanline.proofs.union.union_edges.Goals as goal
-use Rattle.scanline.proofs.union.union_edges.Goals.{then-to-span+in-ok-push+in-ok-push-2, else-to-span}
+use Rattle.scanline.proofs.union.union_edges.Goals.{then-to-span+in_ok-push+in_ok-push-2, else-to-span}
 
-pub returns-in-default : goal.returns-in-default
-returns-in-default c =
+pub returns-in_default : goal.returns-in_default
+returns-in_default c =
     let none : length c.args.spans.now ≡ 0 = search rules in
     rw (c.new-out.ensures.items, nil_from_length c.args.spans.now none) unite_none
 
@@ -18,9 +18,9 @@ pub loop-span-preserved : goal.loop-span-preserved
 loop-span-preserved c =
     let h = unite_at _ _ _ _ _ c.loop-span.span-index (record { top = 0; left = 0; right = 0; bottom = 0 }) c.loop-span-test.true c.loop-span.invariant in
     elim c.if-to-span.branch [
-      | then-to-span+in-ok-push+in-ok-push-2 w ↦ rw (w.out-is, w.from-is, w.to-is, w.in-ok-push-2.ensures.items, w.in-ok-push.ensures.items) (unite-gap _ _ _ _ _ _ h w.if-to-span.true)
+      | then-to-span+in_ok-push+in_ok-push-2 w ↦ rw (w.out-is, w.from-is, w.to-is, w.in_ok-push-2.ensures.items, w.in_ok-push.ensures.items) (unite-gap _ _ _ _ _ _ h w.if-to-span.true)
       | else-to-span w ↦ rw (w.out-is, w.from-is, w.to-is, w.max-to.ensures) (unite-join _ _ _ _ _ _ h w.if-to-span.false)
     ]
 
 pub returns : goal.returns
-returns c = rw (c.in-ok-push-4.ensures.items, c.in-ok-push-3.ensures.items) (unite_end _ _ _ _ _ _ c.loop-span-test.false c.loop-span.invariant)
+returns c = rw (c.in_ok-push-4.ensures.items, c.in_ok-push-3.ensures.items) (unite_end _ _ _ _ _ _ c.loop-span-test.false c.loop-span.invariant)
