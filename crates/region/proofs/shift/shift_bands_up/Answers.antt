@@ -10,13 +10,13 @@ loop-band-init c = rw c.new-out.ensures.items (rise_none c.args.by c.args.bands.
 
 pub loop-band-preserved : goal.loop-band-preserved
 loop-band-preserved c =
-    let d = subst (λ v. Added v (edges_of c.in-ok-line.line) (vec_items c.if-band-by.out) (vec_items c.add-band.new.bands)) c.saturating-sub.ensures c.in-ok-add-band.ensures in
+    let d = subst (λ v. Added v (edges_of c.in_ok-line.line) (vec_items c.if-band-by.out) (vec_items c.add_band.new.bands)) c.saturating_sub.ensures c.in_ok-add_band.ensures in
     let b = c.band-item.result in
     elim c.if-band-by.branch [
-      | then-band-by w ↦ rise-top _ _ _ _ b c.loop-band-test.true c.band-item.is c.loop-band.invariant (edges_of c.in-ok-line.line) c.in-ok-line.ensures _ w.if-band-by.true
-          (subst (λ v. Added (b.from - c.args.by) (edges_of c.in-ok-line.line) v (vec_items c.add-band.new.bands)) (ap vec_items w.out-is ∙ w.clear.ensures.items) d)
-      | else-band-by w ↦ rise-more _ _ _ _ b c.loop-band-test.true c.band-item.is c.loop-band.invariant (edges_of c.in-ok-line.line) c.in-ok-line.ensures _ w.if-band-by.false
-          (subst (λ v. Added (b.from - c.args.by) (edges_of c.in-ok-line.line) v (vec_items c.add-band.new.bands)) (ap vec_items w.out-is) d)
+      | then-band-by w ↦ rise-top _ _ _ _ b c.loop-band-test.true c.band-item.is c.loop-band.invariant (edges_of c.in_ok-line.line) c.in_ok-line.ensures _ w.if-band-by.true
+          (subst (λ v. Added (b.from - c.args.by) (edges_of c.in_ok-line.line) v (vec_items c.add_band.new.bands)) (ap vec_items w.out-is ∙ w.clear.ensures.items) d)
+      | else-band-by w ↦ rise-more _ _ _ _ b c.loop-band-test.true c.band-item.is c.loop-band.invariant (edges_of c.in_ok-line.line) c.in_ok-line.ensures _ w.if-band-by.false
+          (subst (λ v. Added (b.from - c.args.by) (edges_of c.in_ok-line.line) v (vec_items c.add_band.new.bands)) (ap vec_items w.out-is) d)
     ]
 
 pub returns : goal.returns

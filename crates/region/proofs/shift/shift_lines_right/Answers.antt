@@ -8,7 +8,7 @@ loop-band-init c = rw c.new-out.ensures.items (lift_none (MovedRight c.args.by) 
 
 pub loop-band-preserved : goal.loop-band-preserved
 loop-band-preserved c =
-    lift_more (MovedRight c.args.by) _ _ _ _ c.band-item.result (edges_of c.in-ok-line.line) c.loop-band-test.true c.band-item.is c.in-ok-line.ensures c.in-ok-add-band.ensures c.loop-band.invariant
+    lift_more (MovedRight c.args.by) _ _ _ _ c.band-item.result (edges_of c.in_ok-line.line) c.loop-band-test.true c.band-item.is c.in_ok-line.ensures c.in_ok-add_band.ensures c.loop-band.invariant
 
 pub returns : goal.returns
 returns c =
