@@ -19,4 +19,4 @@ returns-in-None c =
 pub returns-in-Some : goal.returns-in-Some
 returns-in-Some c =
     let e : c.in-Some.across ≡ length_of (edges c.args.band.now) = c.in-Some.ensures ∙ ap length_of c.edges.ensures in
-    subst (λ n. Sums (n * c.args.rows) c.checked-mul.result) e (checked_sums c.checked-mul.result (c.in-Some.across * c.args.rows) c.checked-mul.ensures)
+    subst (λ n. Sums (n * c.args.rows) c.checked_mul.result) e (checked_sums c.checked_mul.result (c.in-Some.across * c.args.rows) c.checked_mul.ensures)

@@ -5,4 +5,4 @@ use Rattle.blocks.proofs.corners.Goals as goal
 
 pub returns : goal.returns
 returns c m f s =
-    corner m c.args.by _ _ _ _ _ s c.in-ok-outside.ensures (c.in-ok-reached.ensures m f (settled_not m _ _ s c.in-ok-outside.ensures)) c.in-ok-ends.ensures c.in-ok-out.ensures
+    corner m c.args.by _ _ _ _ _ s c.in_ok-outside.ensures (c.in_ok-reached.ensures m f (settled_not m _ _ s c.in_ok-outside.ensures)) c.in_ok-ends.ensures c.in_ok-out.ensures

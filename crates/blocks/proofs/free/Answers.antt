@@ -9,5 +9,5 @@ pub returns : goal.returns
 returns c =
     let a = covers (vec_items c.args.a.now.bands) in
     let e : suc (c.args.side - 1) ≡ c.args.side = omega (arith, c.requires) in
-    subst (λ n. Exactly (2 * n) a (free-block n a) (covers (vec_items c.in-ok-out.out.bands))) e
-    (freed (c.args.side - 1) a _ _ _ _ c.in-ok-reached.ensures c.in-ok-ends.ensures c.in-ok-blocks.ensures c.in-ok-out.ensures)
+    subst (λ n. Exactly (2 * n) a (free-block n a) (covers (vec_items c.in_ok-out.out.bands))) e
+    (freed (c.args.side - 1) a _ _ _ _ c.in_ok-reached.ensures c.in_ok-ends.ensures c.in_ok-blocks.ensures c.in_ok-out.ensures)

@@ -9,4 +9,4 @@ pub returns : goal.returns
 returns c =
     let a = covers (vec_items c.args.a.now.bands) in
     let e : suc (c.args.side - 1) ≡ c.args.side = omega (arith, c.requires) in
-    subst (λ n. Exactly (2 * n) a (in_a_block n a) (covers (vec_items c.in-ok-out.out.bands))) e (opened (c.args.side - 1) a _ _ c.in-ok-starts.ensures c.in-ok-out.ensures)
+    subst (λ n. Exactly (2 * n) a (in_a_block n a) (covers (vec_items c.in_ok-out.out.bands))) e (opened (c.args.side - 1) a _ _ c.in_ok-starts.ensures c.in_ok-out.ensures)
