@@ -8,14 +8,14 @@ pub returns : goal.returns
 returns c =
     let a = covers (vec_items c.args.a.now.bands) in
     let b = covers (vec_items c.args.b.now.bands) in
-    let o = covers (vec_items c.in-ok-outside.outside.bands) in
-    let flip = c.in-ok-outside.ensures in
+    let o = covers (vec_items c.in_ok-outside.outside.bands) in
+    let flip = c.in_ok-outside.ensures in
     record {
       holds = λ m f s x y.
-          c.in-ok-out.ensures.holds x y
+          c.in_ok-out.ensures.holds x y
           ∙ ap (λ v. a x y && not v)
-          (c.in-ok-safe.ensures.holds x y
-          ∙ ap (λ v. v && not (covers (vec_items c.in-ok-near.near.bands) x y)) (c.in-ok-inner.ensures x y)
-          ∙ ap (λ v. (leb c.args.by x && leb c.args.by y) && not v) (c.in-ok-near.ensures.holds m f (settled_not m b o s flip) x y)
+          (c.in_ok-safe.ensures.holds x y
+          ∙ ap (λ v. v && not (covers (vec_items c.in_ok-near.near.bands) x y)) (c.in_ok-inner.ensures x y)
+          ∙ ap (λ v. (leb c.args.by x && leb c.args.by y) && not v) (c.in_ok-near.ensures.holds m f (settled_not m b o s flip) x y)
           ∙ surrounded_is c.args.by b o flip x y);
     }

@@ -9,25 +9,25 @@ use Rattle.rules.proofs.evaluate.evaluate_terms.Goals as goal
 pub loop-n-init : goal.loop-n-init
 loop-n-init c = (c.new-done.ensures.len, λ d m s. evaluated_none d _ _ _)
 
-pub evaluate-needed-requires : goal.evaluate-needed-requires
-evaluate-needed-requires c =
-    let e : c.loop-n.n ≡ length c.as-slice.result.now = sym (c.as-slice.ensures.len ∙ c.loop-n.invariant.0) in
+pub evaluate_needed-requires : goal.evaluate_needed-requires
+evaluate_needed-requires c =
+    let e : c.loop-n.n ≡ length c.as_slice.result.now = sym (c.as_slice.ensures.len ∙ c.loop-n.invariant.0) in
     subst (λ n. Names n (get_or c.args.rule.now.terms c.loop-n.n (Layer 0))) e (c.requires.sound.names c.loop-n.n c.loop-n-test.true)
 
 pub loop-n-preserved : goal.loop-n-preserved
 loop-n-preserved c =
     let n = c.loop-n.n in
     let long = c.loop-n.invariant.0 in
-    let p = c.in-ok-push.ensures.by_index in
+    let p = c.in_ok-push.ensures.by_index in
     let rule = c.args.rule.now in
     let before = vec_items c.loop-n.done in (
-      c.in-ok-push.ensures.len ∙ ap (λ v. v + 1) long,
-      λ d m s. evaluated-more d m c.args.layers.now rule.terms rule.len s c.requires.sound.names c.requires.sound.few c.args.need.now n c.loop-n-test.true before (c.loop-n.invariant.1 d m s) _ c.in-ok-region.region
+      c.in_ok-push.ensures.len ∙ ap (λ v. v + 1) long,
+      λ d m s. evaluated-more d m c.args.layers.now rule.terms rule.len s c.requires.sound.names c.requires.sound.few c.args.need.now n c.loop-n-test.true before (c.loop-n.invariant.1 d m s) _ c.in_ok-region.region
           (λ k e l. p.0 k e (omega (arith, long)))
-          (λ e. subst (λ v. get_or (vec_items c.push.new.self) v e ≡ c.in-ok-region.region) long (p.1 e refl))
+          (λ e. subst (λ v. get_or (vec_items c.push.new.self) v e ≡ c.in_ok-region.region) long (p.1 e refl))
           (c.requires.sound.names n c.loop-n-test.true)
           (λ t. c.requires.need.closed n c.loop-n-test.true t)
-          (λ t. subst (λ v. TermDone c.args.layers.now v (get_or rule.terms n (Layer 0)) c.in-ok-region.region) c.as-slice.ensures.value (c.in-ok-region.ensures t)),
+          (λ t. subst (λ v. TermDone c.args.layers.now v (get_or rule.terms n (Layer 0)) c.in_ok-region.region) c.as_slice.ensures.value (c.in_ok-region.ensures t)),
     )
 
 pub returns : goal.returns

@@ -6,7 +6,7 @@ use Rattle.rules.specs.declared.term.Term.{Term}
 use Rattle.rules.specs.declared.term.Term.TheVariants.{Layer}
 use Rattle.rules.proofs.Marks.{set_here, set_keeps}
 use Rattle.rules.proofs.judges.mark_layers.Goals as goal
-use Rattle.rules.proofs.judges.mark_layers.Goals.{in-Layer, in-default}
+use Rattle.rules.proofs.judges.mark_layers.Goals.{in-Layer, in_default}
 
 layer-is : (t : Term) (a b : ℕ) → t ≡ Layer a → t ≡ Layer b → a ≡ b
 layer-is t a b e f = cc
@@ -33,10 +33,10 @@ loop-n-preserved c =
             λ j h. set_keeps marked k j p (c.loop-n.invariant.1 j h),
             c.loop-n.invariant.2,
           )
-      | in-default w ↦
+      | in_default w ↦
           rw w.wanted-is (
             λ i j l f. elim (cases_eq i n) [
-              | inl z ↦ absurd (w.in-default.not-Layer j (subst (λ v. get_or ts v (Layer 0) ≡ Layer j) z f))
+              | inl z ↦ absurd (w.in_default.not-Layer j (subst (λ v. get_or ts v (Layer 0) ≡ Layer j) z f))
               | inr z ↦ c.loop-n.invariant.0 i j (elim (cases_lt i n) [ inl s ↦ s | inr s ↦ absurd (z (omega arith)) ]) f
             ],
             c.loop-n.invariant.1,

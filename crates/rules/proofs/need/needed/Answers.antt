@@ -1,13 +1,13 @@
 use Rattle.std.proofs.Common.{◌≡◌, ℕ, suc, ◌-◌, ◌<◌, ◌≤◌, Bool, true, false, length, get_or, replicate, sym, refl, ap, ◌∙◌, subst, arith, rules}
 use Rattle.rules.proofs.Marks.{Marking, mark-needed, mark-not, mark-all, mark-last, mark-both}
 use Rattle.rules.proofs.need.needed.Goals as goal
-use Rattle.rules.proofs.need.needed.Goals.{in-Inside, in-default}
+use Rattle.rules.proofs.need.needed.Goals.{in-Inside, in_default}
 
 pub loop-n-init : goal.loop-n-init
 loop-n-init c =
     elim c.match-rule.branch [
       | in-Inside w ↦ rw w.need-is (mark-both c.args.rule.now (replicate 16 false) _ c.requires refl w.in-Inside.is)
-      | in-default w ↦ rw w.need-is (mark-last c.args.rule.now (replicate 16 false) c.requires refl w.in-default.not-Inside)
+      | in_default w ↦ rw w.need-is (mark-last c.args.rule.now (replicate 16 false) c.requires refl w.in_default.not-Inside)
     ]
 
 pub loop-n-preserved-then-need-n : goal.loop-n-preserved-then-need-n
