@@ -1,11 +1,11 @@
 -- Circuits in numbers, and what is lent to the comparison. Assumes nothing.
-use Rattle.std.proofs.Common.{◌≡◌, ℕ, zero, suc, ◌+◌, ◌-◌, ◌*◌, ◌/◌, ◌%◌, ◌<◌, ◌≤◌, min, Bool, true, false, cond, ◌&&◌, eqb, leb, ◌≢◌, ◌⊎◌, List, [], ◌∷◌, length, get_or, sym, refl, ap, ◌∙◌, subst, ap₂, inl, inr, add-zero, mul-zero, mul-suc, add-one, arith}
-use native.Mathlib.Numerals.{add-three, add-two}
+use Rattle.std.proofs.Common.{◌≡◌, ℕ, zero, suc, ◌+◌, ◌-◌, ◌*◌, ◌/◌, ◌%◌, ◌<◌, ◌≤◌, min, true, false, cond, ◌&&◌, eqb, leb, List, [], ◌∷◌, length, get_or, sym, refl, ap, ◌∙◌, subst, inl, inr, arith}
+use native.Mathlib.Numerals.{add-three}
 use Rattle.std.proofs.lemmas.Bool.{cases_Bool, cases_lt, eq-eqb, eqb-true, le-leb, leb-true, and_parts, and_from}
 use Rattle.circuits.specs.Circuits.{Device, Same}
 use Rattle.circuits.specs.Laws.{BelowNets}
 use Rattle.circuits.specs.Netlists.{fits, weight, mapped, device-at, has, Netlist, threes, all_at_most, devices_in, none, circuit_ok}
-use Rattle.circuits.specs.Pairings.{Below, Pairs, Iso, Has, at, Paired, Keeps, Missing, Named, Pairable}
+use Rattle.circuits.specs.Pairings.{Below, Has, at, Paired, Missing, Named, Pairable}
 use Rattle.circuits.proofs.Sums.{sum-cong}
 use Rattle.circuits.proofs.Isos.{W, to-iso, from-iso}
 

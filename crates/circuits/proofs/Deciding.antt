@@ -1,11 +1,11 @@
 -- Whether two circuits are the same is decided, of whatever size. Assumes nothing.
-use Rattle.std.proofs.Common.{◌≡◌, ℕ, zero, suc, ◌+◌, ◌<◌, ◌≤◌, cond, eqb, ltb, ◌⊎◌, List, length, get_or, sym, refl, ap, ◌∙◌, subst, inl, inr, arith}
+use Rattle.std.proofs.Common.{◌≡◌, ℕ, zero, suc, ◌<◌, cond, eqb, ltb, ◌⊎◌, List, length, get_or, sym, refl, ap, ◌∙◌, subst, inl, inr, arith}
 use Rattle.std.proofs.lemmas.Bool.{cases_eq, cases_lt, eq-eqb, ne_eqb, lt-ltb, le-ltb, cond-true, cond-false}
 use Rattle.circuits.specs.Circuits.{Device, Same}
 use Rattle.circuits.specs.Laws.{BelowNets, Compared}
 use Rattle.circuits.specs.Netlists.{mapped, three}
-use Rattle.circuits.specs.Pairings.{Below, Pairs, Iso}
-use Rattle.circuits.proofs.Devices.{Like, weight-same}
+use Rattle.circuits.specs.Pairings.{Iso}
+use Rattle.circuits.proofs.Devices.{weight-same}
 use Rattle.circuits.proofs.Isos.{W, to-iso, from-iso}
 
 abbrev Either : Type 0 → Type 0

@@ -1,6 +1,5 @@
 -- A circuit is the same as itself; same goes back, and through a third. Assumes nothing.
-use Rattle.std.proofs.Common.{◌≡◌, ℕ, ◌<◌, ◌≤◌, ◌⊎◌, List, length, get_or, sym, refl, ap, ◌∙◌, inl, inr, arith}
-use Rattle.circuits.specs.Circuits.{Device, Same}
+use Rattle.std.proofs.Common.{◌≡◌, ℕ, ◌<◌, get_or, sym, refl, ap, ◌∙◌, inl, inr, arith}
 use Rattle.circuits.specs.Laws.{BelowNets, SameSelf, SameBack, SameOn}
 
 pub same_self : SameSelf

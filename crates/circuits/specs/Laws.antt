@@ -1,5 +1,5 @@
 -- What is promised of circuits. Each is a statement, a type. Assumes nothing.
-use Rattle.std.specs.Prelude.{◌≡◌, ℕ, ◌<◌, ◌≤◌, ◌⊎◌, List, length, slice_index_or}
+use Rattle.std.specs.Prelude.{ℕ, ◌<◌, ◌≤◌, ◌⊎◌, List, length, slice_index_or}
 use Rattle.circuits.specs.Circuits.{Device, Same}
 
 unfoldable pub BelowNets : ℕ → List Device → (none : Device) → Type 0

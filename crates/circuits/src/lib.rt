@@ -39,8 +39,7 @@ pub fn compare(nets_a: u64, nets_b: u64, named: u64, a: &[u64], b: &[u64]) -> Co
     }
     let own = own_partners(named as usize);
     let p = Pairing { to: own, back: own };
-    let mut steps = 0;
-    if pairable(a, b, nets_a as usize, nets_b as usize, p, true, &mut steps) {
+    if pairable(a, b, nets_a as usize, nets_b as usize, p) {
         Comparison::Equal
     } else {
         Comparison::Unequal

@@ -1,5 +1,5 @@
 -- Why at_most does what its contract says.
-use Rattle.std.proofs.Common.{◌≡◌, sym, arith}
+use Rattle.std.proofs.Common.{sym, arith}
 use Rattle.circuits.proofs.Comparisons.{at_most_from, at_most_not}
 use Rattle.circuits.proofs.netlist.at_most.Goals as goal
 

@@ -1,5 +1,5 @@
 -- What the loops of at_most keep, and why it ends.
-use Rattle.std.proofs.Common.{◌≡◌, ℕ, ◌<◌, ◌≤◌, length, get_or}
+use Rattle.std.proofs.Common.{ℕ, ◌<◌, ◌≤◌, get_or}
 use Rattle.circuits.proofs.netlist.at_most.Given as goal
 
 abbrev pub invariant-loop-x : goal.invariant-loop-x

@@ -1,5 +1,5 @@
 -- Why count does what its contract says.
-use Rattle.std.proofs.Common.{◌≡◌, ℕ, cond, sym, ap, ◌∙◌, arith}
+use Rattle.std.proofs.Common.{ℕ, cond, sym, ◌∙◌, arith}
 use Rattle.std.proofs.lemmas.Bool.{cond-true, cond-false}
 use Rattle.circuits.proofs.Sums.{sum-none_at, sum-at}
 use Rattle.circuits.specs.Circuits.{Device}

@@ -1,5 +1,5 @@
 -- What the loops of count keep, and why it ends.
-use Rattle.std.proofs.Common.{◌≡◌, ℕ, ◌≤◌}
+use Rattle.std.proofs.Common.{◌≡◌, ◌≤◌}
 use Rattle.circuits.specs.Netlists.{weight, device-at, three}
 use Rattle.circuits.proofs.netlist.count.Given as goal
 
