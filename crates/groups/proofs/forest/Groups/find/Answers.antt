@@ -26,11 +26,11 @@ index-next-requires c =
     let here : at < length qs = omega (arith, c.loop-at.invariant.0, c.loop-at.self.parents.ok.0) in
     omega (arith, read-parent qs at c.index-up.result.now here c.index-up.ensures, c.loop-at.self.falls at)
 
-pub invariant-of-self : goal.invariant-of-self
-invariant-of-self c =
+pub invariant_of-self : goal.invariant_of-self
+invariant_of-self c =
     let qs = vec_items c.loop-at.self.parents in
     let here : c.loop-at.at < length qs = omega (arith, c.loop-at.invariant.0, c.loop-at.self.parents.ok.0) in
-    (half-falls qs c.loop-at.self.falls _ _ _ here c.index-up.ensures c.index-next.ensures, tt)
+    record { falls = half-falls qs c.loop-at.self.falls _ _ _ here c.index-up.ensures c.index-next.ensures }
 
 pub loop-at-smaller : goal.loop-at-smaller
 loop-at-smaller c =

@@ -16,4 +16,4 @@ zeros n xs e = (
 )
 
 pub returns : goal.returns
-returns c = zeros c.args.n (vec_items c.in-ok-known.known) (c.in-ok-known.ensures.items-if-clones-equal (λ y e. e))
+returns c = zeros c.args.n (vec_items c.in_ok-known.known) (c.in_ok-known.ensures.items_if_clones_equal (λ y e. e))
