@@ -1,2 +1,3 @@
+-- What contracts on output cite.
 pub mod Sentences
 pub mod Outputs

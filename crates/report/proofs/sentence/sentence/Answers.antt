@@ -1,4 +1,5 @@
-use Rattle.std.proofs.Common.{◌≡◌, sym, refl}
+-- Why the sentence of a technology is what its contract says.
+use Rattle.std.proofs.Common.{refl}
 use Rattle.report.proofs.sentence.sentence.Goals as goal
 
 pub returns-in-Technology : goal.returns-in-Technology
