@@ -1,5 +1,5 @@
 -- What `last_line` needs beyond what the search finds.
-use Rattle.std.proofs.Common.{◌-◌, take, refl, ap, ◌∙◌, arith}
+use Rattle.std.proofs.Common.{take, refl, ap, ◌∙◌, arith}
 use Rattle.words.specs.Lines.{newlines}
 use Rattle.words.proofs.Lines.{newlines-hit, newlines-miss}
 use Rattle.words.proofs.line.last_line.Goals as goal

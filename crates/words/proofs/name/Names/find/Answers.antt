@@ -1,5 +1,5 @@
 -- What `find` needs beyond what the search finds.
-use Rattle.std.proofs.Common.{◌-◌, ◌<◌, [], map, length, get_or, vec_items, sym, ap, ◌∙◌, arith}
+use Rattle.std.proofs.Common.{◌-◌, ◌<◌, [], length, get_or, vec_items, sym, ap, ◌∙◌, arith}
 use Rattle.std.proofs.lemmas.List.{length-map}
 use Rattle.std.specs.Str.{bytes_eq}
 use Rattle.words.specs.Chains.{name_of, latest, hashed}
@@ -11,7 +11,7 @@ use Rattle.words.proofs.name.Names.find.Goals as goal
 pub loop-at-init : goal.loop-at-init
 loop-at-init c =
     let t = c.args.self.now in
-    seek-first (names_of t) c.args.name.now c.index-at.result.now (read_head t c.chain-of.result c.index-at.result.now c.chain-of.ensures.bound c.index-at.ensures ∙ ap (λ h. latest (names_of t) h (length (names_of t))) c.chain-of.ensures.value)
+    seek-first (names_of t) c.args.name.now c.index-at.result.now (read_head t c.chain_of.result c.index-at.result.now c.chain_of.ensures.bound c.index-at.ensures ∙ ap (λ h. latest (names_of t) h (length (names_of t))) c.chain_of.ensures.value)
 
 pub index-entry-requires : goal.index-entry-requires
 index-entry-requires c = omega (arith, c.loop-at.invariant.low, length-map (vec_items c.args.self.now.entries) name_of, c.args.self.now.entries.ok.0)
@@ -21,7 +21,7 @@ returns-then-same c =
     let t = c.args.self.now in
     let j = c.loop-at.at - 1 in
     let here : j < length (vec_items t.entries) = omega (arith, c.loop-at.invariant.low, length-map (vec_items t.entries) name_of) in
-    seek_found (names_of t) c.args.name.now c.loop-at.at j (omega arith) c.loop-at.invariant (ap (λ n. bytes_eq n c.args.name.now) (read_name t j c.index-entry.result.now here c.index-entry.ensures ∙ sym c.as-slice.ensures.value) ∙ sym c.if-same.ensures)
+    seek_found (names_of t) c.args.name.now c.loop-at.at j (omega arith) c.loop-at.invariant (ap (λ n. bytes_eq n c.args.name.now) (read_name t j c.index-entry.result.now here c.index-entry.ensures ∙ sym c.as_slice.ensures.value) ∙ sym c.if-same.ensures)
 
 pub loop-at-smaller : goal.loop-at-smaller
 loop-at-smaller c =
@@ -35,7 +35,7 @@ loop-at-preserved c =
     let t = c.args.self.now in
     let j = c.loop-at.at - 1 in
     let here : j < length (vec_items t.entries) = omega (arith, c.loop-at.invariant.low, length-map (vec_items t.entries) name_of) in
-    seek-next (names_of t) c.args.name.now c.loop-at.at j (omega arith) c.loop-at.invariant c.index-entry.result.now.before (read-before t j c.index-entry.result.now here c.index-entry.ensures) (ap (λ n. bytes_eq n c.args.name.now) (read_name t j c.index-entry.result.now here c.index-entry.ensures ∙ sym c.as-slice.ensures.value) ∙ sym c.if-same.ensures)
+    seek-next (names_of t) c.args.name.now c.loop-at.at j (omega arith) c.loop-at.invariant c.index-entry.result.now.before (read-before t j c.index-entry.result.now here c.index-entry.ensures) (ap (λ n. bytes_eq n c.args.name.now) (read_name t j c.index-entry.result.now here c.index-entry.ensures ∙ sym c.as_slice.ensures.value) ∙ sym c.if-same.ensures)
 
 pub returns : goal.returns
 returns c = seek-none (names_of c.args.self.now) c.args.name.now c.loop-at.at (omega arith) c.loop-at.invariant
