@@ -4,7 +4,7 @@ use Rattle.std.proofs.lemmas.List.{at_drop_more, at_drop_all, append_assoc, appe
 use Rattle.std.proofs.lemmas.Slice.{between_is}
 use Rattle.std.proofs.lemmas.Bool.{eq-eqb, ne_eqb, cases_Bool, cases_lt, false≢true}
 use Rattle.std.proofs.ByRecursion.{All-push}
-use Rattle.std.specs.List.{between, AllByRecursion as All}
+use Rattle.std.specs.List.{between, AllByRecursion}
 use Rattle.words.specs.declared.word.Word.{Word}
 use Rattle.words.specs.declared.word.Marks.{Marks}
 use Rattle.words.specs.declared.word.Kind.{Kind}
@@ -176,7 +176,7 @@ ended_some n p (b ∷ bs) h = refl
 pub record Cutting (m : Marks) (text : List ℕ) (ws : List Word) (line at : ℕ) : Type 0 where
   pub here : at ≤ length text
   pub lines : line ≤ at
-  pub inside : All (Inside text) ws
+  pub inside : AllByRecursion (Inside text) ws
   pub same : map (token_at text) ws ++ words_from m line at false [] (drop at text) ≡ words_of m text
 
 module _ (m : Marks) (text : List ℕ) where

@@ -1,6 +1,6 @@
 -- The words of a text, with their lines. Assumes nothing: these are definitions.
 use Rattle.std.specs.Prelude.{◌≡◌, ℕ, suc, ◌+◌, ◌≤◌, Bool, true, false, cond, ◌||◌, List, [], ◌∷◌, ◌++◌, map, length, ◌==◌}
-use Rattle.std.specs.List.{between, AllByRecursion as All}
+use Rattle.std.specs.List.{between, AllByRecursion}
 use Rattle.words.specs.declared.word.Word.{Word}
 use Rattle.words.specs.declared.word.Marks.{Marks}
 use Rattle.words.specs.declared.word.Marks.TheVariants.{Plain, Braces, Parentheses}
@@ -76,5 +76,5 @@ Inside text w = (w.start ≤ w.end) × (w.end ≤ length text)
 
 -- the words lie in the text, and are its words
 pub record Cut (m : Marks) (text : List ℕ) (ws : List Word) : Type 0 where
-  pub inside : All (Inside text) ws
+  pub inside : AllByRecursion (Inside text) ws
   pub same : map (token_at text) ws ≡ words_of m text
