@@ -1,5 +1,5 @@
 -- Statements drawn as nodes: which numbers a layout text means. Assumes nothing: these are definitions.
-use Rattle.std.specs.Prelude.{ℕ, suc, cond, not, List, [], ◌∷◌, ◌++◌, length, Some, None, vec_items, Option, ◌==◌, slice_index}
+use Rattle.std.specs.Prelude.{ℕ, suc, cond, List, [], ◌∷◌, ◌++◌, length, Some, None, vec_items, Option, ◌==◌, slice_index}
 use Rattle.words.specs.Steps.{by_some}
 use Rattle.text.specs.Sheets.{Nodes, added, joined, sheet-of}
 use Rattle.text.specs.declared.statement.Statement.{Statement}

@@ -17,7 +17,6 @@ use Rattle.text.specs.declared.keyword.Keyword.{Keyword}
 use Rattle.text.specs.declared.keyword.Slot.{Slot}
 use Rattle.text.specs.declared.keyword.Keyword.TheVariants as key
 use Rattle.text.specs.declared.keyword.Slot.TheVariants as slot
-use Rattle.text.specs.declared.statement.Statement.TheVariants as statement
 use Rattle.text.specs.declared.statement.Said.{Said}
 use Rattle.text.specs.declared.reader.Reader.{Reader}
 

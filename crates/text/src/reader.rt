@@ -1,6 +1,5 @@
 // Reads the words of a layout text, one after another, into statements.
 ghost use Rattle.std.specs.Prelude.{◌≡◌, map, IfOk, if◌then◌else◌, Some, None, OnOk};
-ghost use Rattle.std.specs.List.{AllByRecursion as All};
 ghost use Rattle.std.specs.Str.{bytes_eq};
 ghost use Rattle.words.specs.Names.{names_of};
 ghost use Rattle.words.specs.Words.{token_at};

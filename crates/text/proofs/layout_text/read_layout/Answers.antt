@@ -8,5 +8,5 @@ use Rattle.text.proofs.layout_text.read_layout.Goals as goal
 
 pub returns : goal.returns
 returns c =
-    let same = ap (λ (d : Drawing). d.sheet.nodes) c.in-ok-plan.ensures ∙ ap (λ (ss : List Said). (finished (all_said blank ss)).sheet.nodes) c.as-slice.ensures.value in
-    record { read = search rules; draws = text_draws c.args.text.now (vec_items c.in-ok-plan.plan.sheet.nodes) (state_of c.in-ok-reader.reader) c.in-ok-reader.ensures same }
+    let same = ap (λ (d : Drawing). d.sheet.nodes) c.in_ok-plan.ensures ∙ ap (λ (ss : List Said). (finished (all_said blank ss)).sheet.nodes) c.as_slice.ensures.value in
+    record { read = search rules; draws = text_draws c.args.text.now (vec_items c.in_ok-plan.plan.sheet.nodes) (state_of c.in_ok-reader.reader) c.in_ok-reader.ensures same }

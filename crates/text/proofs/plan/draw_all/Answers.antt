@@ -8,7 +8,7 @@ pub loop-s-init : goal.loop-s-init
 loop-s-init c = ap (λ d. all_said d c.args.said.now) c.new-plan.ensures
 
 pub loop-s-preserved : goal.loop-s-preserved
-loop-s-preserved c = say-next c.args.said.now (plan_of c.loop-s.plan) c.loop-s.s-index c.loop-s.invariant _ (plan_of c.say.new.self) (omega arith) c.in-ok-say.ensures
+loop-s-preserved c = say-next c.args.said.now (plan_of c.loop-s.plan) c.loop-s.s-index c.loop-s.invariant _ (plan_of c.say.new.self) (omega arith) c.in_ok-say.ensures
 
 pub returns : goal.returns
-returns c = c.in-ok-finish.ensures ∙ ap finished (say-all c.args.said.now (plan_of c.loop-s.plan) c.loop-s.s-index c.loop-s.invariant (omega arith))
+returns c = c.in_ok-finish.ensures ∙ ap finished (say-all c.args.said.now (plan_of c.loop-s.plan) c.loop-s.s-index c.loop-s.invariant (omega arith))

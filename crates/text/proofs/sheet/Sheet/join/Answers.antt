@@ -6,12 +6,12 @@ use Rattle.text.proofs.Sheets.{join_first, join-next, join-all}
 use Rattle.text.proofs.sheet.Sheet.join.Goals as goal
 
 pub loop-i-init : goal.loop-i-init
-loop-i-init c = join_first (sheet-of c.args.self.now) c.args.parts.now c.args.line (let h = eqb-false (length c.args.parts.now) 0 (sym c.if-is-empty.ensures) in omega arith)
+loop-i-init c = join_first (sheet-of c.args.self.now) c.args.parts.now c.args.line (let h = eqb-false (length c.args.parts.now) 0 (sym c.if-is_empty.ensures) in omega arith)
 
 pub loop-i-preserved : goal.loop-i-preserved
 loop-i-preserved c =
     join-next (sheet-of c.args.self.now) c.args.parts.now c.args.line (sheet-of c.loop-i.self) c.loop-i.node c.loop-i.i c.loop-i.invariant
-    (sheet-of c.add-in-loop-i.new.self) c.in-ok-node-2.node (omega arith) c.in-ok-node-2.ensures.number c.in-ok-node-2.ensures.after
+    (sheet-of c.add-in-loop-i.new.self) c.in_ok-node-2.node (omega arith) c.in_ok-node-2.ensures.number c.in_ok-node-2.ensures.after
 
 pub returns : goal.returns
 returns c = join-all (sheet-of c.args.self.now) c.args.parts.now c.args.line (sheet-of c.loop-i.self) c.loop-i.node c.loop-i.i c.loop-i.invariant c.loop-i-test.false
