@@ -8,7 +8,7 @@ use Rattle.words.specs.Numbers.{number_in, all_digits}
 use Rattle.words.specs.Words.{Token}
 use Rattle.words.specs.Steps.{by_some}
 use Rattle.rule_text.specs.Operators.{operator_of_lem, number_of}
-use Rattle.rule_text.specs.Expressions.{Reading, Found, last_node_lem, joins, added, opened, operated, ended, further_in, accept, is_done_lem, region_from}
+use Rattle.rule_text.specs.Expressions.{Reading, Found, joins, added, opened, operated, ended, further_in, accept, is_done_lem, region_from}
 use Rattle.rule_text.specs.Regions.{Joint, Tree, and, or, without, layer, two, grown, word_of, kind_of_lem, Spells, count, numbered, ReadsSpelled, ReadsOnlySpelled}
 use Rattle.rule_text.specs.declared.operator.Operator.{Operator}
 use Rattle.rule_text.specs.declared.operator.Operator.TheVariants as operator

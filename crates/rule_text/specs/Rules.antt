@@ -1,5 +1,5 @@
 -- Rules as they are written, one to a line. Assumes nothing: these are definitions.
-use Rattle.std.specs.Prelude.{◌≡◌, ℕ, ◌-◌, cond, List, [], ◌∷◌, ◌++◌, length, take, drop, Some, None, vec_items, Option}
+use Rattle.std.specs.Prelude.{◌≡◌, ℕ, ◌-◌, List, [], ◌∷◌, ◌++◌, length, take, drop, Some, None, vec_items, Option}
 use Rattle.std.specs.List.{between}
 use Rattle.words.specs.Numbers.{number_in}
 use Rattle.words.specs.Words.{Token}

@@ -10,15 +10,15 @@ use Rattle.rule_text.proofs.expression.read_region.Goals as goal
 pub returns-then-not-taken : goal.returns-then-not-taken
 returns-then-not-taken c =
     ap (λ (fs : List Frame). region_from (record { nodes = vec_items c.args.nodes; frames = fs; next = awaits.Operand }) (drop c.args.from (map (token_at c.args.text.now) c.args.words.now))) (sym c.new.ensures.items)
-    ∙ refused c.args.text.now c.args.words.now _ (expression_of c.loop-at.expression) c.loop-at.at c.loop-at.invariant _ c.bytes.result.now (omega arith) c.bytes.ensures (not_taken (accept (expression_of c.loop-at.expression) c.bytes.result.now) (expression_of c.accept.new.self) c.in-ok-taken.taken c.if-not-taken.true c.in-ok-taken.ensures)
+    ∙ refused c.args.text.now c.args.words.now _ (expression_of c.loop-at.expression) c.loop-at.at c.loop-at.invariant _ c.bytes.result.now (omega arith) c.bytes.ensures (not_taken (accept (expression_of c.loop-at.expression) c.bytes.result.now) (expression_of c.accept.new.self) c.in_ok-taken.taken c.if-not-taken.true c.in_ok-taken.ensures)
 
-pub returns-then-is-done : goal.returns-then-is-done
-returns-then-is-done c =
+pub returns-then-is_done : goal.returns-then-is_done
+returns-then-is_done c =
     ap (λ (fs : List Frame). region_from (record { nodes = vec_items c.args.nodes; frames = fs; next = awaits.Operand }) (drop c.args.from (map (token_at c.args.text.now) c.args.words.now))) (sym c.new.ensures.items)
-    ∙ done c.args.text.now c.args.words.now _ (expression_of c.loop-at.expression) c.loop-at.at c.loop-at.invariant _ c.bytes.result.now (omega arith) c.bytes.ensures (expression_of c.accept.new.self) (taken-so (accept (expression_of c.loop-at.expression) c.bytes.result.now) (expression_of c.accept.new.self) c.in-ok-taken.taken c.if-not-taken.false c.in-ok-taken.ensures) c.if-is-done.ensures
+    ∙ done c.args.text.now c.args.words.now _ (expression_of c.loop-at.expression) c.loop-at.at c.loop-at.invariant _ c.bytes.result.now (omega arith) c.bytes.ensures (expression_of c.accept.new.self) (taken-so (accept (expression_of c.loop-at.expression) c.bytes.result.now) (expression_of c.accept.new.self) c.in_ok-taken.taken c.if-not-taken.false c.in_ok-taken.ensures) c.if-is_done.ensures
 
 pub loop-at-preserved : goal.loop-at-preserved
-loop-at-preserved c = more c.args.text.now c.args.words.now _ (expression_of c.loop-at.expression) c.loop-at.at c.loop-at.invariant _ c.bytes.result.now (omega arith) c.bytes.ensures (expression_of c.accept.new.self) (taken-so (accept (expression_of c.loop-at.expression) c.bytes.result.now) (expression_of c.accept.new.self) c.in-ok-taken.taken c.if-not-taken.false c.in-ok-taken.ensures) c.if-is-done.ensures
+loop-at-preserved c = more c.args.text.now c.args.words.now _ (expression_of c.loop-at.expression) c.loop-at.at c.loop-at.invariant _ c.bytes.result.now (omega arith) c.bytes.ensures (expression_of c.accept.new.self) (taken-so (accept (expression_of c.loop-at.expression) c.bytes.result.now) (expression_of c.accept.new.self) c.in_ok-taken.taken c.if-not-taken.false c.in_ok-taken.ensures) c.if-is_done.ensures
 
 pub returns : goal.returns
 returns c =

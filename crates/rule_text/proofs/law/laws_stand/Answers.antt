@@ -3,4 +3,4 @@ use Rattle.rule_text.proofs.Regions.{reads_spelled, reads_only_spelled}
 use Rattle.rule_text.proofs.law.laws_stand.Goals as goal
 
 pub returns : goal.returns
-returns c = record { spelled = reads_spelled; only-spelled = reads_only_spelled }
+returns c = record { spelled = reads_spelled; only_spelled = reads_only_spelled }

@@ -4,4 +4,4 @@ use Rattle.std.proofs.lemmas.List.{take_rest}
 use Rattle.rule_text.proofs.rule.root_of.Goals as goal
 
 pub returns : goal.returns
-returns c = take_rest c.args.nodes.now c.saturating-sub-end.result ∙ ap (λ n. drop n c.args.nodes.now) c.saturating-sub-end.ensures
+returns c = take_rest c.args.nodes.now c.saturating_sub-end.result ∙ ap (λ n. drop n c.args.nodes.now) c.saturating_sub-end.ensures
