@@ -7,7 +7,7 @@ use Rattle.tiles.proofs.link.link_tiles.Goals as goal
 use Rattle.tiles.proofs.link.link_tiles.Goals.{then-loop-i-test+else-j-tiles, else-loop-i-test, then-meets, else-meets}
 
 pub loop-i-init : goal.loop-i-init
-loop-i-init c = (c.in-ok-groups.ensures.0, walked_none _ c.requires _ c.in-ok-groups.ensures.1)
+loop-i-init c = (c.in_ok-groups.ensures.0, walked_none _ c.requires _ c.in_ok-groups.ensures.1)
 
 pub returns : goal.returns
 returns c = (
