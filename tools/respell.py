@@ -16,6 +16,7 @@ HEAD = re.compile(r"^(?:(?:abbrev|unfoldable|pub) )*(record |data |ruleset )?(" 
 FIELD = re.compile(r"^  (?:pub )?((?:" + WORD + r" )+): ", re.M)
 KEYS = {"use", "mod", "pub", "where", "unfolding", "unfold", "let", "elim", "open", "in", "infix", "infixl", "infixr", "mutual"}
 STD = set("length sum sum_by take drop map reverse get_or set append concat filter and or not min max replicate count_by position lines".split())
+VALUES = set("free-block device-at device-spot spot-at moved-spot rule-of two-boxes meaning-of sheet-of part-more put-down".split())
 PLAIN = {"at", "all", "has", "sound"}
 PROP = re.compile(r"[≡≢≤<×⊎⊥↔]|\bIsTrue\b|\bAll\b|\bUnit\b")
 
@@ -106,7 +107,9 @@ def mapping():
     for name, sig in sigs:
         end = result(sig)
         head = re.match(WORD, end)
-        if PROP.search(end) or (head and head.group(0).split(".")[-1] in types):
+        if name in VALUES:
+            functions.add(name)
+        elif PROP.search(end) or (head and head.group(0).split(".")[-1] in types):
             lemmas[name] = sig
         else:
             functions.add(name)

@@ -2,7 +2,7 @@
 use Rattle.std.proofs.Common.{◌≡◌, ℕ, suc, ◌+◌, ◌-◌, ◌*◌, ◌^◌, ◌<◌, ◌≤◌, Bool, true, false, not, ◌&&◌, leb, ◌⊎◌, Decides, sym, refl, ap, ◌∙◌, subst, inl, inr, arith}
 use Rattle.std.proofs.lemmas.Bool.{cases_Bool, cases_lt, both_ways, not-true, not_from_false, not-false, not_from_true, le-leb, lt-leb, and_from, and_parts, leb-true, and_left, and_right}
 use Rattle.region.specs.Firsts.{Squares}
-use Rattle.blocks.specs.Blocks.{near, block, in_a_block, drawn_in, free-block}
+use Rattle.blocks.specs.Blocks.{near, block, in_a_block, drawn_in, free_block}
 use Rattle.blocks.specs.Settled.{Settled, Behind, Dilated, Exactly, Corners}
 use Rattle.blocks.proofs.Counts.{tell_same, block_all, all_block, around, in_block}
 use Rattle.blocks.proofs.Dilations.{settled_dilated, settled_not, settled_back, settled_more}
@@ -55,8 +55,8 @@ drawn_from n s u v h =
     (leb-true _ _ p.0, leb-true _ _ q.0, q.1)
 
 -- the block that ends at a square of `ends` is free of s; the blocks around x, y end at most n further
-pub freed : (n : ℕ) (s w ends o r : Squares) → ((m : ℕ) → m + n < 2 ^ 64 → Settled m s → Dilated n s w) → ((x y : ℕ) → ends x y ≡ not (w x y)) → ((m : ℕ) → m + n < 2 ^ 64 → Settled m ends → Dilated n ends o) → ((x y : ℕ) → r x y ≡ o (x + n) (y + n)) → Exactly (2 * suc n) s (free-block (suc n) s) r
-unfolding free-block
+pub freed : (n : ℕ) (s w ends o r : Squares) → ((m : ℕ) → m + n < 2 ^ 64 → Settled m s → Dilated n s w) → ((x y : ℕ) → ends x y ≡ not (w x y)) → ((m : ℕ) → m + n < 2 ^ 64 → Settled m ends → Dilated n ends o) → ((x y : ℕ) → r x y ≡ o (x + n) (y + n)) → Exactly (2 * suc n) s (free_block (suc n) s) r
+unfolding free_block
 freed n s w ends o r h e g b = record {
   holds = λ m f k x y.
       let dw = h m (omega arith) k in

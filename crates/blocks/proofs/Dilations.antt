@@ -6,7 +6,7 @@ use Rattle.scanline.specs.Lines.{Near, Room}
 use Rattle.scanline.specs.Bands.{covers}
 use Rattle.region.specs.Firsts.{Squares}
 use Rattle.region.specs.Shifts.{RowRoom, WidenedRight, WidenedDown}
-use Rattle.blocks.specs.Blocks.{near, block, in_a_block, drawn_in, free-block}
+use Rattle.blocks.specs.Blocks.{near, block, in_a_block, drawn_in, free_block}
 use Rattle.blocks.specs.Settled.{Settled, Behind, Dilated, Exactly}
 use Rattle.blocks.proofs.Counts.{tell_same, near-some, some_near}
 

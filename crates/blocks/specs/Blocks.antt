@@ -28,5 +28,5 @@ unfoldable pub drawn_in : ℕ → Squares → Squares
 drawn_in n s x y = nat_le n x && (nat_le n y && s (x - n) (y - n))
 
 -- some block of n by n squares with x, y in it is free of s, and may reach over the upper and left edges
-unfoldable pub free-block : ℕ → Squares → Squares
-free-block n s x y = in_a_block n (λ u v. not (drawn_in n s u v)) (x + n) (y + n)
+unfoldable pub free_block : ℕ → Squares → Squares
+free_block n s x y = in_a_block n (λ u v. not (drawn_in n s u v)) (x + n) (y + n)

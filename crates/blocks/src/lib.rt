@@ -4,7 +4,7 @@
 ghost use Rattle.std.specs.Prelude.{◌≡◌, ℕ, ◌+◌, ◌*◌, ◌^◌, ◌<◌, ◌≤◌, not, IfOk};
 ghost use Rattle.scanline.specs.Bands.{covers};
 ghost use Rattle.blocks.specs.Settled.{Settled, Dilated, Exactly, Corners};
-ghost use Rattle.blocks.specs.Blocks.{near, in_a_block, drawn_in, free-block};
+ghost use Rattle.blocks.specs.Blocks.{near, in_a_block, drawn_in, free_block};
 
 use region::regions::Region;
 use std::alloc::{AllocError, Global};
@@ -62,7 +62,7 @@ pub fn open(heap: Global, a: &Region, side: u64) -> Result<Region, AllocError>
 // upper and left edges: the block's last square is always there.
 pub fn free(heap: Global, a: &Region, side: u64) -> Result<Region, AllocError>
     requires { 0 < side }
-    ensures { IfOk result (λ v. Exactly (2 * side) (covers a.now.bands.items) (free-block side (covers a.now.bands.items)) (covers v.bands.items)) }
+    ensures { IfOk result (λ v. Exactly (2 * side) (covers a.now.bands.items) (free_block side (covers a.now.bands.items)) (covers v.bands.items)) }
 {
     let reached = dilate(heap, a, side - 1)?;
     let ends = reached.complement(heap)?;

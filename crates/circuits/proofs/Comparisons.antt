@@ -4,7 +4,7 @@ use native.Mathlib.Numerals.{add-three}
 use Rattle.std.proofs.lemmas.Bool.{cases_Bool, cases_lt, eq-eqb, eqb-true, le-leb, leb-true, and_parts, and_from}
 use Rattle.circuits.specs.Circuits.{Device, Same}
 use Rattle.circuits.specs.Laws.{BelowNets}
-use Rattle.circuits.specs.Netlists.{fits, weight, mapped, device-at, has, Netlist, threes, all_at_most, devices_in, none, circuit_ok}
+use Rattle.circuits.specs.Netlists.{fits, weight, mapped, device_at, has, Netlist, threes, all_at_most, devices_in, none, circuit_ok}
 use Rattle.circuits.specs.Pairings.{Below, Has, at, Paired, Missing, Named, Pairable}
 use Rattle.circuits.proofs.Sums.{sum-cong}
 use Rattle.circuits.proofs.Isos.{W, to-iso, from-iso}
@@ -26,7 +26,7 @@ devices-length (a ∷ (b ∷ (c ∷ xs))) = omega (arith, devices-length xs)
 getD_three : (a b c : ℕ) (xs : List ℕ) (k : ℕ) → get_or (a ∷ (b ∷ (c ∷ xs))) (k + 3) 0 ≡ get_or xs k 0
 getD_three a b c xs k = ap (λ n. get_or (a ∷ (b ∷ (c ∷ xs))) n 0) (add-three k)
 
-device-three : (a b c : ℕ) (xs : List ℕ) (i : ℕ) → device-at (a ∷ (b ∷ (c ∷ xs))) (suc i) ≡ device-at xs i
+device-three : (a b c : ℕ) (xs : List ℕ) (i : ℕ) → device_at (a ∷ (b ∷ (c ∷ xs))) (suc i) ≡ device_at xs i
 device-three a b c xs i =
     let zs = a ∷ (b ∷ (c ∷ xs)) in
     let i₀ : 3 * suc i ≡ 3 * i + 3 = omega arith in
@@ -37,7 +37,7 @@ device-three a b c xs i =
     let q : get_or zs (3 * suc i + 2) 0 ≡ get_or xs (3 * i + 2) 0 = ap (λ n. get_or zs n 0) i₂ ∙ getD_three a b c xs (3 * i + 2) in
     λ t. record { gate = g t; one = p t; other = q t }
 
-pub devices-at : (xs : List ℕ) (i : ℕ) → i < length xs / 3 → get_or (devices_in xs) i none ≡ device-at xs i
+pub devices-at : (xs : List ℕ) (i : ℕ) → i < length xs / 3 → get_or (devices_in xs) i none ≡ device_at xs i
 unfolding devices_in
 devices-at [] i h = absurd (omega arith)
 devices-at (a ∷ []) i h = absurd (omega arith)

@@ -15,15 +15,15 @@ abbrev pub weight : ℕ → (ℕ → Device) → Device → ℕ
 weight k ps q = sum k (λ i. cond (fits (ps i) q) 1 0)
 
 -- the device at a place of a circuit in numbers
-abbrev pub device-at : List ℕ → ℕ → Device
-device-at xs i = record { gate = slice_index xs (3 * i); one = slice_index xs (3 * i + 1); other = slice_index xs (3 * i + 2) }
+abbrev pub device_at : List ℕ → ℕ → Device
+device_at xs i = record { gate = slice_index xs (3 * i); one = slice_index xs (3 * i + 1); other = slice_index xs (3 * i + 2) }
 
 abbrev pub mapped : (ℕ → ℕ) → Device → Device
 mapped f p = record { gate = f p.gate; one = f p.one; other = f p.other }
 
 -- how often a circuit in numbers has a device
 abbrev pub has : List ℕ → Device → ℕ
-has xs t = weight (length xs / 3) (device-at xs) t
+has xs t = weight (length xs / 3) (device_at xs) t
 
 abbrev pub three : (g p q : ℕ) → Device
 three g p q = record { gate = g; one = p; other = q }

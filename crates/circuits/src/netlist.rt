@@ -1,6 +1,6 @@
 // Netlists in numbers: devices in threes, the gate first.
 ghost use Rattle.std.specs.Prelude.{◌≡◌, ◌/◌, ◌<◌, length};
-ghost use Rattle.circuits.specs.Netlists.{has, fits, device-at, three, all_at_most, circuit_ok};
+ghost use Rattle.circuits.specs.Netlists.{has, fits, device_at, three, all_at_most, circuit_ok};
 
 /// The most devices that a circuit has.
 const MAX_DEVICES: usize = 256;
@@ -11,7 +11,7 @@ const MAX_NETS: u64 = 256;
 /// The device at a place has this gate and these ends, in either order.
 fn matches(c: &[u64], i: usize, gate: u64, one: u64, other: u64) -> bool
     requires { i < length c.now / 3 }
-    ensures { result ≡ fits (device-at c.now i) (three gate one other) }
+    ensures { result ≡ fits (device_at c.now i) (three gate one other) }
 {
     if c[3 * i] != gate {
         return false;

@@ -10,7 +10,7 @@ use Rattle.rules.specs.declared.rule.Rule.{Rule}
 use Rattle.rules.specs.declared.layers.Layers.{Layers}
 use Rattle.rule_text.specs.Operators.{rule_number}
 use Rattle.rule_text.specs.Rules as text
-use Rattle.rule_text.specs.Rules.{rule-of}
+use Rattle.rule_text.specs.Rules.{rule_of}
 use Rattle.rule_text.specs.declared.rule.RuleText.{RuleText}
 use Rattle.deck.specs.Decks.{Each, FirstTurned}
 use Rattle.deck.specs.declared.fault.DeckFault.{DeckFault}

@@ -2,7 +2,7 @@
 ghost use Rattle.std.specs.Prelude.{map, IfOk};
 ghost use Rattle.std.specs.List.{AllByRecursion};
 ghost use Rattle.rules.specs.Values.{Sound};
-ghost use Rattle.rule_text.specs.Rules.{rule-of};
+ghost use Rattle.rule_text.specs.Rules.{rule_of};
 ghost use Rattle.deck.specs.Decks.{DeckJudged};
 ghost use Rattle.deck.specs.Readings.{AllBreaking};
 
@@ -33,7 +33,7 @@ fn judge_layers(heap: Global, layers: &Layers, rules: &[Rule]) -> Result<Vec<Reg
 
 /// For each rule of a deck the squares of a layout that break it.
 pub fn judge_deck(heap: Global, layout: &[u64], deck: &[RuleText]) -> Result<Vec<Region>, DeckFault>
-    ensures { DeckJudged layout.now (map rule-of deck.now) result }
+    ensures { DeckJudged layout.now (map rule_of deck.now) result }
 {
     let boxes = match layout_boxes(heap, layout) {
         Ok(boxes) => boxes,

@@ -2,7 +2,7 @@
 ghost use Rattle.std.specs.Prelude.{◌≡◌, map, vec_len};
 ghost use Rattle.std.specs.List.{AllByRecursion};
 ghost use Rattle.rules.specs.Values.{Sound};
-ghost use Rattle.rule_text.specs.Rules.{rule-of};
+ghost use Rattle.rule_text.specs.Rules.{rule_of};
 ghost use Rattle.deck.specs.Readings.{DeckRead, AllMarked};
 
 use super::fault::DeckFault;
@@ -14,7 +14,7 @@ use std::alloc::Global;
 
 // The rules in their order, or the first that is turned away.
 pub(crate) fn read_deck(heap: Global, deck: &[RuleText]) -> Result<Vec<Rule>, DeckFault>
-    ensures { DeckRead (map rule-of deck.now) result }
+    ensures { DeckRead (map rule_of deck.now) result }
 {
     let mut rules = Vec::new(heap);
     for (place, text) in deck.iter().enumerate() {

@@ -15,51 +15,51 @@ use Rattle.devices.specs.declared.reading.Device.{Device}
 use Rattle.devices.specs.declared.entry.Found.TheVariants.{Devices, Odd, Refused, Memory}
 use Rattle.devices.specs.Channels.{channel, spot_of, Under, Earlier}
 use Rattle.devices.specs.Ends.{Ends, DeviceAt, OddAt}
-use Rattle.devices.specs.Readings.{device-at, device-spot, terminal_spot, Enumerated, Written}
+use Rattle.devices.specs.Readings.{device_at, device_spot, terminal_spot, Enumerated, Written}
 use Rattle.devices.specs.Findings.{place_at, Listed, Crowded, devices_refusal, RefusedAt, ReadInto, Says, SaysSo}
 use Rattle.devices.proofs.Channels.{unders-back, ends-move}
 
 module _ (k : Technology) (d : Drawing) (vs : List Device) (all : Enumerated k d vs) where
-  listed-once : (i j : ℕ) → i < length vs → j < length vs → Under k d (device-spot k vs i) (device-spot k vs j) → i ≡ j
+  listed-once : (i j : ℕ) → i < length vs → j < length vs → Under k d (device_spot k vs i) (device_spot k vs j) → i ≡ j
   listed-once i j p q u =
       elim (cases_order i j) [
         | inl e ↦ e
         | inr o ↦ elim o [
-          | inl l ↦ absurd ((all.each j q).first.first (device-spot k vs i) (unders-back k d (device-spot k vs i) (device-spot k vs j) u) (all.order i j l q))
-          | inr l ↦ absurd ((all.each i p).first.first (device-spot k vs j) u (all.order j i l p))
+          | inl l ↦ absurd ((all.each j q).first.first (device_spot k vs i) (unders-back k d (device_spot k vs i) (device_spot k vs j) u) (all.order i j l q))
+          | inr l ↦ absurd ((all.each i p).first.first (device_spot k vs j) u (all.order j i l p))
         ]
       ]
 
   crowded : (room : List ℕ) → length room / 6 < length vs → Crowded k d room
   crowded room more = record {
     count = length vs;
-    spots = device-spot k vs;
+    spots = device_spot k vs;
     more = omega arith;
     there = λ i h. (all.each i h).first.there;
     once = listed-once;
-    devices = λ a h. let p = all.all a h in (_, _, ends-move k d (device-spot k vs p.0) a _ _ p.2 (all.each p.0 p.1).ends);
+    devices = λ a h. let p = all.all a h in (_, _, ends-move k d (device_spot k vs p.0) a _ _ p.2 (all.each p.0 p.1).ends);
   }
 
   module _ (room xs : List ℕ) (w : Written vs (length vs) room xs) where
-    spot_is : (i : ℕ) → i < length vs → place_at k xs (6 * i) ≡ device-spot k vs i
+    spot_is : (i : ℕ) → i < length vs → place_at k xs (6 * i) ≡ device_spot k vs i
     spot_is i h = λ j. spot_of k ((w.spot i h).0 j) ((w.spot i h).1 j)
 
-    one-is : (i : ℕ) → i < length vs → place_at k xs (6 * i + 2) ≡ terminal_spot k (device-at vs i).one
+    one-is : (i : ℕ) → i < length vs → place_at k xs (6 * i + 2) ≡ terminal_spot k (device_at vs i).one
     one-is i h = λ j. spot_of k ((w.one i h).0 j) ((w.one i h).1 j)
 
-    other-is : (i : ℕ) → i < length vs → place_at k xs (6 * i + 4) ≡ terminal_spot k (device-at vs i).other
+    other-is : (i : ℕ) → i < length vs → place_at k xs (6 * i + 4) ≡ terminal_spot k (device_at vs i).other
     other-is i h = λ j. spot_of k ((w.other i h).0 j) ((w.other i h).1 j)
 
     pub listed : Listed k d (length vs) xs
     listed = record {
       each = λ i h.
           subst (λ a. DeviceAt k d a (place_at k xs (6 * i + 2)) (place_at k xs (6 * i + 4))) (sym (spot_is i h))
-          (subst (λ b. DeviceAt k d (device-spot k vs i) b (place_at k xs (6 * i + 4))) (sym (one-is i h))
-          (subst (λ e. DeviceAt k d (device-spot k vs i) (terminal_spot k (device-at vs i).one) e) (sym (other-is i h)) (all.each i h)));
+          (subst (λ b. DeviceAt k d (device_spot k vs i) b (place_at k xs (6 * i + 4))) (sym (one-is i h))
+          (subst (λ e. DeviceAt k d (device_spot k vs i) (terminal_spot k (device_at vs i).one) e) (sym (other-is i h)) (all.each i h)));
       order = λ i j l h.
-          subst (λ a. Earlier a (place_at k xs (6 * j))) (sym (spot_is i (omega arith))) (subst (λ b. Earlier (device-spot k vs i) b) (sym (spot_is j h)) (all.order i j l h));
+          subst (λ a. Earlier a (place_at k xs (6 * j))) (sym (spot_is i (omega arith))) (subst (λ b. Earlier (device_spot k vs i) b) (sym (spot_is j h)) (all.order i j l h));
       once = λ i j p q u.
-          listed-once i j p q (subst (λ a. Under k d a (device-spot k vs j)) (spot_is i p) (subst (λ b. Under k d (place_at k xs (6 * i)) b) (spot_is j q) u));
+          listed-once i j p q (subst (λ a. Under k d a (device_spot k vs j)) (spot_is i p) (subst (λ b. Under k d (place_at k xs (6 * i)) b) (spot_is j q) u));
       all = λ a h. let p = all.all a h in (p.0, p.1, subst (λ s. Under k d s a) (sym (spot_is p.0 p.1)) p.2);
     }
 

@@ -15,17 +15,17 @@ use Rattle.devices.specs.Channels.{channel, spot_of, Under, Earlier}
 use Rattle.devices.specs.Ends.{Ends, DeviceAt, OddAt}
 use Rattle.devices.specs.Pieces.{root_of_lem}
 use Rattle.devices.specs.Terminals.{ends_of}
-use Rattle.devices.specs.Readings.{terminal_spot, corner, Known, device-at, device-spot, Enumerated}
+use Rattle.devices.specs.Readings.{terminal_spot, corner, Known, device_at, device_spot, Enumerated}
 use Rattle.devices.proofs.Channels.{unders-back, ends-move}
 use Rattle.devices.proofs.Orders.{channel-place, corner-has, corner-order, earlier-tile, root-first}
 use Rattle.devices.proofs.Judgements.{judged-device, judged-odd}
 
 -- the first n tiles are looked at
 pub record Going (k : Technology) (d : Drawing) (ts : List Tile) (rs : List ℕ) (n : ℕ) (vs : List Device) : Type 0 where
-  pub each : (i : ℕ) → i < length vs → DeviceAt k d (device-spot k vs i) (terminal_spot k (device-at vs i).one) (terminal_spot k (device-at vs i).other)
-  pub from : (i : ℕ) → i < length vs → (c : ℕ) × (c < n) × (device-spot k vs i ≡ corner k ts c)
-  pub order : (i j : ℕ) → i < j → j < length vs → Earlier (device-spot k vs i) (device-spot k vs j)
-  pub all : (c : ℕ) → c < n → root_of_lem rs c ≡ c → (i : ℕ) × (i < length vs) × (device-spot k vs i ≡ corner k ts c)
+  pub each : (i : ℕ) → i < length vs → DeviceAt k d (device_spot k vs i) (terminal_spot k (device_at vs i).one) (terminal_spot k (device_at vs i).other)
+  pub from : (i : ℕ) → i < length vs → (c : ℕ) × (c < n) × (device_spot k vs i ≡ corner k ts c)
+  pub order : (i j : ℕ) → i < j → j < length vs → Earlier (device_spot k vs i) (device_spot k vs j)
+  pub all : (c : ℕ) → c < n → root_of_lem rs c ≡ c → (i : ℕ) × (i < length vs) × (device_spot k vs i ≡ corner k ts c)
 
 module _ (k : Technology) (d : Drawing) (ts : List Tile) (rs : List ℕ) where
   pub going-none : Going k d ts rs 0 []
@@ -61,16 +61,16 @@ module _ (k : Technology) (d : Drawing) (ts : List Tile) (rs : List ℕ) where
           | inr z ↦ (n, omega arith, ap (λ u. spot_of k u.x u.y) (new-at i z))
         ];
         order = λ i j l h. elim (place j h) [
-          | inl m ↦ subst (λ u. Earlier u (device-spot k ws j)) (ap (λ u. spot_of k u.x u.y) (sym (old-at i (omega arith))))
-              (subst (λ u. Earlier (device-spot k vs i) u) (ap (λ u. spot_of k u.x u.y) (sym (old-at j m))) (old.order i j l m))
+          | inl m ↦ subst (λ u. Earlier u (device_spot k ws j)) (ap (λ u. spot_of k u.x u.y) (sym (old-at i (omega arith))))
+              (subst (λ u. Earlier (device_spot k vs i) u) (ap (λ u. spot_of k u.x u.y) (sym (old-at j m))) (old.order i j l m))
           | inr z ↦
               let p = old.from i (omega arith) in
-              subst (λ u. Earlier u (device-spot k ws j)) (ap (λ u. spot_of k u.x u.y) (sym (old-at i (omega arith))))
-              (subst (λ u. Earlier (device-spot k vs i) u) (ap (λ u. spot_of k u.x u.y) (sym (new-at j z)))
+              subst (λ u. Earlier u (device_spot k ws j)) (ap (λ u. spot_of k u.x u.y) (sym (old-at i (omega arith))))
+              (subst (λ u. Earlier (device_spot k vs i) u) (ap (λ u. spot_of k u.x u.y) (sym (new-at j z)))
               (subst (λ u. Earlier u (corner k ts n)) (sym p.2) (corner-order k d ts rs known.gated p.0 n p.1 within)))
         ];
         all = λ c h o. elim (cases_eq c n) [
-          | inl z ↦ (length vs, omega (arith, length_push vs v), subst (λ m. device-spot k ws (length vs) ≡ corner k ts m) (sym z) (ap (λ u. spot_of k u.x u.y) (new-at (length vs) refl)))
+          | inl z ↦ (length vs, omega (arith, length_push vs v), subst (λ m. device_spot k ws (length vs) ≡ corner k ts m) (sym z) (ap (λ u. spot_of k u.x u.y) (new-at (length vs) refl)))
           | inr z ↦
               let p = old.all c (omega arith) o in
               (p.0, omega (arith, p.1, length_push vs v), subst (λ u. spot_of k u.x u.y ≡ corner k ts c) (sym (old-at p.0 p.1)) p.2)
@@ -86,10 +86,10 @@ module _ (k : Technology) (d : Drawing) (ts : List Tile) (rs : List ℕ) where
           place : (i : ℕ) → i < length ws → (i < length vs) ⊎ (i ≡ length vs)
           place i h = elim (cases_lt i (length vs)) [ inl l ↦ inl l | inr g ↦ inr (omega (arith, length_push vs v)) ]
 
-          old-at : (i : ℕ) → i < length vs → device-at ws i ≡ device-at vs i
+          old-at : (i : ℕ) → i < length vs → device_at ws i ≡ device_at vs i
           old-at i l = get_or_append_left vs (v ∷ []) _ i l
 
-          new-at : (i : ℕ) → i ≡ length vs → device-at ws i ≡ v
+          new-at : (i : ℕ) → i ≡ length vs → device_at ws i ≡ v
           new-at i z = get_or_push vs v _ i (sym z)
 
       -- before an odd channel all are devices
@@ -102,9 +102,9 @@ module _ (k : Technology) (d : Drawing) (ts : List Tile) (rs : List ℕ) where
             let below = earlier-tile k d ts rs known.gated n p.0 s within p.1 o in
             let r = root_of_lem rs p.0 in
             let q = old.all r (omega (arith, known.gated.low p.0, below)) (known.gated.top p.0) in
-            let u : Under k d (device-spot k vs q.0) s = subst (λ a. Under k d a s) (sym q.2)
+            let u : Under k d (device_spot k vs q.0) s = subst (λ a. Under k d a s) (sym q.2)
             (known.gated.apart r p.0 (corner k ts r) s (corner-has k d ts rs known.gated r (omega (arith, within, known.gated.low p.0, below))) p.1 (known.gated.top p.0)) in
-            (_, _, ends-move k d (device-spot k vs q.0) s _ _ u (old.each q.0 q.1).ends);
+            (_, _, ends-move k d (device_spot k vs q.0) s _ _ u (old.each q.0 q.1).ends);
       }
 
     pub going-all : length ts ≤ n → Enumerated k d vs

@@ -41,17 +41,17 @@ pub record Known (k : Technology) (d : Drawing) (ts : List Tile) (rs : List ℕ)
   pub gated : Gated k d ts rs
   pub judged : (i : ℕ) → i < length ts → root_of_lem rs i ≡ i → Judged k d (corner k ts i) (slice_index_or es i Isolated)
 
-abbrev pub device-at : List Device → ℕ → Device
-device-at vs i = slice_index_or vs i (record { x = 0; y = 0; one = record { net = 0; x = 0; y = 0 }; other = record { net = 0; x = 0; y = 0 } })
+abbrev pub device_at : List Device → ℕ → Device
+device_at vs i = slice_index_or vs i (record { x = 0; y = 0; one = record { net = 0; x = 0; y = 0 }; other = record { net = 0; x = 0; y = 0 } })
 
-abbrev pub device-spot : Technology → List Device → ℕ → Spot
-device-spot k vs i = spot_of k (device-at vs i).x (device-at vs i).y
+abbrev pub device_spot : Technology → List Device → ℕ → Spot
+device_spot k vs i = spot_of k (device_at vs i).x (device_at vs i).y
 
 -- all devices, in order
 pub record Enumerated (k : Technology) (d : Drawing) (vs : List Device) : Type 0 where
-  pub each : (i : ℕ) → i < length vs → DeviceAt k d (device-spot k vs i) (terminal_spot k (device-at vs i).one) (terminal_spot k (device-at vs i).other)
-  pub order : (i j : ℕ) → i < j → j < length vs → Earlier (device-spot k vs i) (device-spot k vs j)
-  pub all : (a : Spot) → on (channel k d) a ≡ true → (i : ℕ) × (i < length vs) × Under k d (device-spot k vs i) a
+  pub each : (i : ℕ) → i < length vs → DeviceAt k d (device_spot k vs i) (terminal_spot k (device_at vs i).one) (terminal_spot k (device_at vs i).other)
+  pub order : (i j : ℕ) → i < j → j < length vs → Earlier (device_spot k vs i) (device_spot k vs j)
+  pub all : (a : Spot) → on (channel k d) a ≡ true → (i : ℕ) × (i < length vs) × Under k d (device_spot k vs i) a
 
 -- all devices, or the first odd channel
 abbrev pub ComesTo : Technology → Drawing → Reading → Type 0
@@ -61,7 +61,7 @@ ComesTo k d (Odd x y) = OddAt k d (spot_of k x y)
 -- six numbers for each of the first n devices, and beyond them the room as it was
 pub record Written (vs : List Device) (n : ℕ) (room room₁ : List ℕ) : Type 0 where
   pub long : length room₁ ≡ length room
-  pub spot : (i : ℕ) → i < n → (slice_index room₁ (6 * i) ≡ (device-at vs i).x) × (slice_index room₁ (6 * i + 1) ≡ (device-at vs i).y)
-  pub one : (i : ℕ) → i < n → (slice_index room₁ (6 * i + 2) ≡ (device-at vs i).one.x) × (slice_index room₁ (6 * i + 2 + 1) ≡ (device-at vs i).one.y)
-  pub other : (i : ℕ) → i < n → (slice_index room₁ (6 * i + 4) ≡ (device-at vs i).other.x) × (slice_index room₁ (6 * i + 4 + 1) ≡ (device-at vs i).other.y)
+  pub spot : (i : ℕ) → i < n → (slice_index room₁ (6 * i) ≡ (device_at vs i).x) × (slice_index room₁ (6 * i + 1) ≡ (device_at vs i).y)
+  pub one : (i : ℕ) → i < n → (slice_index room₁ (6 * i + 2) ≡ (device_at vs i).one.x) × (slice_index room₁ (6 * i + 2 + 1) ≡ (device_at vs i).one.y)
+  pub other : (i : ℕ) → i < n → (slice_index room₁ (6 * i + 4) ≡ (device_at vs i).other.x) × (slice_index room₁ (6 * i + 4 + 1) ≡ (device_at vs i).other.y)
   pub beyond : (j : ℕ) → 6 * n ≤ j → slice_index room₁ j ≡ slice_index room j

@@ -13,7 +13,7 @@ use Rattle.tiles.proofs.Tiles.{holds_decides, place-held, one-holder}
 use Rattle.nets.specs.Limits.{max_spots, max_spot}
 use Rattle.nets.specs.Nets.{Technology, wire, on}
 use Rattle.nets.specs.Wires.{Tiled, Has, Named}
-use Rattle.nets.specs.Spots.{spot-at, spots_fit, spots_ok, Misplaced, holder, tile_of_spot, Counted}
+use Rattle.nets.specs.Spots.{spot_at, spots_fit, spots_ok, Misplaced, holder, tile_of_spot, Counted}
 use Rattle.nets.proofs.Ways.{way-starts}
 use Rattle.nets.proofs.Wires.{has-wire}
 
@@ -101,28 +101,28 @@ located_holder ts order l x y (Some i) h =
 -- numbers by groups are numbers by nets
 
 module _ (k : Technology) (d : Drawing) (ts : List Tile) (tiled : Tiled (wire k d) ts) (f : ℕ → ℕ) (named : Named k d ts f) (spots : List ℕ) where
-  spot-has : (i a : ℕ) → tile_of_spot ts spots i ≡ Some a → Has ts a (spot-at spots i)
-  unfolding spot-at
+  spot-has : (i a : ℕ) → tile_of_spot ts spots i ≡ Some a → Has ts a (spot_at spots i)
+  unfolding spot_at
   spot-has i a e = holder-holds ts _ _ _ a e
 
-  spot-some : (i : ℕ) → on (wire k d) (spot-at spots i) ≡ true → (a : ℕ) × (tile_of_spot ts spots i ≡ Some a)
-  unfolding spot-at on
+  spot-some : (i : ℕ) → on (wire k d) (spot_at spots i) ≡ true → (a : ℕ) × (tile_of_spot ts spots i ≡ Some a)
+  unfolding spot_at on
   spot-some i h = holder-some ts _ _ _ (tiled.holds _ _ _ ∙ h)
 
   pub counted : (m : ℕ) (ns : List ℕ) → Numbered f (tile_of_spot ts spots) m ns → Counted k d spots m ns
   counted m ns all = record {
     off = λ i h w. elim (cases_option (tile_of_spot ts spots i)) [
       | inl e ↦ all.none i h e
-      | inr p ↦ absurd (both_ways _ w (has-wire k d ts tiled p.0 (spot-at spots i) (spot-has i p.0 p.1)))
+      | inr p ↦ absurd (both_ways _ w (has-wire k d ts tiled p.0 (spot_at spots i) (spot-has i p.0 p.1)))
     ];
     wired = λ i h w.
         let a = spot-some i w in
         elim (all.some i a.0 h a.1) [
-          | inl e ↦ inl (e.place, e.before, named.apart e.what a.0 (spot-at spots e.place) (spot-at spots i) (spot-has e.place e.what e.here) (spot-has i a.0 a.1) e.same, sym e.number)
+          | inl e ↦ inl (e.place, e.before, named.apart e.what a.0 (spot_at spots e.place) (spot_at spots i) (spot-has e.place e.what e.here) (spot-has i a.0 a.1) e.same, sym e.number)
           | inr e ↦ inr (
             λ j l v.
-                let b = spot-some j (way-starts k d (spot-at spots j) (spot-at spots i) v) in
-                e.0 j b.0 l b.1 (named.same b.0 a.0 (spot-at spots j) (spot-at spots i) (spot-has j b.0 b.1) (spot-has i a.0 a.1) v),
+                let b = spot-some j (way-starts k d (spot_at spots j) (spot_at spots i) v) in
+                e.0 j b.0 l b.1 (named.same b.0 a.0 (spot_at spots j) (spot_at spots i) (spot-has j b.0 b.1) (spot-has i a.0 a.1) v),
             e.1,
           )
         ];

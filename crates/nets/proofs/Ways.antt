@@ -2,7 +2,7 @@
 use Rattle.std.proofs.Common.{◌≡◌, ℕ, zero, suc, ◌+◌, ◌-◌, ◌<◌, ◌≤◌, true, ◌⊎◌, sym, ap, ◌∙◌, subst, inl, inr, arith}
 use Rattle.std.proofs.lemmas.Bool.{cases_eq, le-leb}
 use Rattle.layout.specs.Layout.{Drawing, shifted}
-use Rattle.nets.specs.Nets.{Technology, wire, Spot, on, Beside, right, left, below, above, Way, stays, along, through, moved-spot}
+use Rattle.nets.specs.Nets.{Technology, wire, Spot, on, Beside, right, left, below, above, Way, stays, along, through, moved_spot}
 use Rattle.nets.specs.Laws.{WaysMove, WaysBack, WaysOn}
 
 pub beside_back : (a b : Spot) → Beside a b → Beside b a
@@ -61,19 +61,19 @@ module _ (r b : ℕ) where
       let q : y + b - b ≡ y = omega arith in
       rw (le-leb r (x + r) (omega arith), le-leb b (y + b) (omega arith), p, q)
 
-  on-moved : (k : Technology) (d : Drawing) (s : Spot) → on (wire k (shifted r b d)) (moved-spot r b s) ≡ on (wire k d) s
-  unfolding on wire moved-spot
+  on-moved : (k : Technology) (d : Drawing) (s : Spot) → on (wire k (shifted r b d)) (moved_spot r b s) ≡ on (wire k d) s
+  unfolding on wire moved_spot
   on-moved k d s = rw (shifted_at d s.layer s.x s.y, shifted_at d k.gate s.x s.y)
 
-  beside-moved : (s t : Spot) → Beside s t → Beside (moved-spot r b s) (moved-spot r b t)
-  unfolding moved-spot
+  beside-moved : (s t : Spot) → Beside s t → Beside (moved_spot r b s) (moved_spot r b t)
+  unfolding moved_spot
   beside-moved s t (right l x y) = let e : suc x + r ≡ suc (x + r) = omega arith in rw e (right l (x + r) (y + b))
   beside-moved s t (left l x y) = let e : suc x + r ≡ suc (x + r) = omega arith in rw e (left l (x + r) (y + b))
   beside-moved s t (below l x y) = let e : suc y + b ≡ suc (y + b) = omega arith in rw e (below l (x + r) (y + b))
   beside-moved s t (above l x y) = let e : suc y + b ≡ suc (y + b) = omega arith in rw e (above l (x + r) (y + b))
 
 pub ways_move : WaysMove
-unfolding moved-spot
+unfolding moved_spot
 ways_move k d r b s t (stays h) = stays (on-moved r b k d s ∙ h)
 ways_move k d r b s t (along u v w n h) = along _ _ (ways_move k d r b s u w) (beside-moved r b u t n) (on-moved r b k d t ∙ h)
 ways_move k d r b s t (through u v j w p q m c h) =

@@ -1,7 +1,7 @@
 -- Laws of ways and nets. Assumes nothing: these are statements, and a function's contract names them.
 use Rattle.std.specs.Prelude.{ℕ}
 use Rattle.layout.specs.Layout.{Layout, Drawing, shifted, drawn}
-use Rattle.nets.specs.Nets.{Technology, Spot, Way, Netted, moved-spot}
+use Rattle.nets.specs.Nets.{Technology, Spot, Way, Netted, moved_spot}
 
 -- every layout has numbers for its spots that are equal exactly where one can go
 abbrev pub HasNets : Type 0
@@ -15,4 +15,4 @@ WaysOn = (k : Technology) (d : Drawing) (s t u : Spot) → Way k d s t → Way k
 
 -- nets go by what is drawn, wherever: a way in a drawing is one in the drawing moved
 abbrev pub WaysMove : Type 0
-WaysMove = (k : Technology) (d : Drawing) (r b : ℕ) (s t : Spot) → Way k d s t → Way k (shifted r b d) (moved-spot r b s) (moved-spot r b t)
+WaysMove = (k : Technology) (d : Drawing) (r b : ℕ) (s t : Spot) → Way k d s t → Way k (shifted r b d) (moved_spot r b s) (moved_spot r b t)

@@ -40,5 +40,5 @@ pub record Netted (k : Technology) (d : Drawing) (net : Spot → ℕ) : Type 0 w
   pub same : (a b : Spot) → on (wire k d) a ≡ true → on (wire k d) b ≡ true → Way k d a b → net a ≡ net b
   pub apart : (a b : Spot) → on (wire k d) a ≡ true → on (wire k d) b ≡ true → net a ≡ net b → Way k d a b
 
-unfoldable pub moved-spot : (right below : ℕ) → Spot → Spot
-moved-spot r b s = record { layer = s.layer; x = s.x + r; y = s.y + b }
+unfoldable pub moved_spot : (right below : ℕ) → Spot → Spot
+moved_spot r b s = record { layer = s.layer; x = s.x + r; y = s.y + b }

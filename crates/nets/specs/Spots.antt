@@ -10,8 +10,8 @@ use Rattle.tiles.specs.Tiles.{in_tile}
 use Rattle.nets.specs.Limits.{max_spots, max_spot}
 use Rattle.nets.specs.Nets.{Technology, wire, Spot, on, Way}
 
-unfoldable pub spot-at : List ℕ → ℕ → Spot
-spot-at xs i = record { layer = slice_index xs (3 * i); x = slice_index xs (3 * i + 1); y = slice_index xs (3 * i + 2) }
+unfoldable pub spot_at : List ℕ → ℕ → Spot
+spot_at xs i = record { layer = slice_index xs (3 * i); x = slice_index xs (3 * i + 1); y = slice_index xs (3 * i + 2) }
 
 -- three numbers for each of n that are asked for, and not too many
 unfoldable pub spots_fit : List ℕ → ℕ → Bool
@@ -35,7 +35,7 @@ tile_of_spot ts spots i = holder ts (slice_index spots (3 * i)) (slice_index spo
 
 -- each of m spots gets 0 if it is no wire; else the number of an earlier spot from which one can go there, or one more than there were
 pub record Counted (k : Technology) (d : Drawing) (spots : List ℕ) (m : ℕ) (ns : List ℕ) : Type 0 where
-  pub off : (i : ℕ) → i < m → on (wire k d) (spot-at spots i) ≡ false → slice_index ns i ≡ 0
-  pub wired : (i : ℕ) → i < m → on (wire k d) (spot-at spots i) ≡ true →
-      ((j : ℕ) × (j < i) × Way k d (spot-at spots j) (spot-at spots i) × (slice_index ns i ≡ slice_index ns j))
-      ⊎ (((j : ℕ) → j < i → Way k d (spot-at spots j) (spot-at spots i) → ⊥) × (slice_index ns i ≡ suc (highest ns i)))
+  pub off : (i : ℕ) → i < m → on (wire k d) (spot_at spots i) ≡ false → slice_index ns i ≡ 0
+  pub wired : (i : ℕ) → i < m → on (wire k d) (spot_at spots i) ≡ true →
+      ((j : ℕ) × (j < i) × Way k d (spot_at spots j) (spot_at spots i) × (slice_index ns i ≡ slice_index ns j))
+      ⊎ (((j : ℕ) → j < i → Way k d (spot_at spots j) (spot_at spots i) → ⊥) × (slice_index ns i ≡ suc (highest ns i)))

@@ -10,7 +10,7 @@ use Rattle.words.specs.declared.word.Word.{Word}
 use Rattle.words.specs.declared.word.Marks.TheVariants.{Parentheses}
 use Rattle.words.proofs.Lines.{rest-take, rest-short, lines-last, lines_next}
 use Rattle.words.specs.Steps.{by_some, and_then}
-use Rattle.rule_text.specs.Rules.{Rule, rule_in, rule-of, RuleRead}
+use Rattle.rule_text.specs.Rules.{Rule, rule_in, rule_of, RuleRead}
 use Rattle.rule_text.specs.declared.rule.RuleText.{RuleText}
 use Rattle.rule_text.specs.RuleTexts.{lined, rules_from, Follows, RulesRead}
 
@@ -32,7 +32,7 @@ module _ (line : List ℕ) (n : ℕ) (rs : List Rule) (ws : List Word) (cut : Cu
       ap (λ t. cond t (Ok rs) (read_as (rule_in line (words_of Parentheses line) n))) (ne_eqb (length (words_of Parentheses line)) 0 (λ e. h (sym line-long ∙ e)))
       ∙ ap (λ ts. read_as (rule_in line ts n)) (sym cut.same)
 
-  pub line-some : (length ws ≡ 0 → ⊥) → (us : List Word) → us ≡ ws → (o : Option RuleText) (r : RuleText) → o ≡ Some r → RuleRead (rule_in line (map (token_at line) us) n) o → lined n rs line ≡ Ok (rs ++ rule-of r ∷ [])
+  pub line-some : (length ws ≡ 0 → ⊥) → (us : List Word) → us ≡ ws → (o : Option RuleText) (r : RuleText) → o ≡ Some r → RuleRead (rule_in line (map (token_at line) us) n) o → lined n rs line ≡ Ok (rs ++ rule_of r ∷ [])
   unfolding read_as
   line-some h us e o r q k =
       line_read h ∙ ap (λ vs. read_as (rule_in line (map (token_at line) vs) n)) (sym e)

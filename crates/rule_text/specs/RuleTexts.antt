@@ -9,7 +9,7 @@ use Rattle.words.specs.Lines.{lines_of}
 use Rattle.words.specs.Words.{words_of}
 use Rattle.words.specs.declared.word.Marks.TheVariants.{Parentheses}
 use Rattle.words.specs.Steps.{by_some, and_then}
-use Rattle.rule_text.specs.Rules.{Rule, rule_in, rule-of}
+use Rattle.rule_text.specs.Rules.{Rule, rule_in, rule_of}
 use Rattle.rule_text.specs.declared.rule.RuleText.{RuleText}
 
 -- the rules after one line more, or its number where it can't be read; a line without words holds no rule
@@ -33,6 +33,6 @@ Follows m s (Err (Refused e)) = (e ≡ Text (place_of e)) × (m ≡ Err (place_o
 Follows m s (Err Memory) = Unit {0}
 
 abbrev pub RulesRead : List ℕ → Result (Vec RuleText Global) Fault → Type 0
-RulesRead text (Ok v) = rules_text text ≡ Ok (map rule-of (vec_items v))
+RulesRead text (Ok v) = rules_text text ≡ Ok (map rule_of (vec_items v))
 RulesRead text (Err (Refused e)) = (e ≡ Text (place_of e)) × (rules_text text ≡ Err (place_of e))
 RulesRead text (Err Memory) = Unit {0}

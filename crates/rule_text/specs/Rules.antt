@@ -68,8 +68,8 @@ pub record Rule : Type 0 where
   pub message : List ℕ
   pub line : ℕ
 
-abbrev pub rule-of : RuleText → Rule
-rule-of r = record { kind = r.kind; regions = vec_items r.regions; number = r.number; message = vec_items r.message; line = r.line }
+abbrev pub rule_of : RuleText → Rule
+rule_of r = record { kind = r.kind; regions = vec_items r.regions; number = r.number; message = vec_items r.message; line = r.line }
 
 abbrev pub after_kind : List ℕ → List Token → ℕ → RuleKind → Option Rule
 after_kind text ts line k =
@@ -84,4 +84,4 @@ rule_in text (t ∷ ts) line = by_some (rule_kind_of_lem t.bytes) None (after_ki
 
 abbrev pub RuleRead : Option Rule → Option RuleText → Type 0
 RuleRead m None = m ≡ None
-RuleRead m (Some r) = m ≡ Some (rule-of r)
+RuleRead m (Some r) = m ≡ Some (rule_of r)

@@ -1,6 +1,6 @@
 // Rule texts: one rule to a line.
 ghost use Rattle.std.specs.Prelude.{map};
-ghost use Rattle.rule_text.specs.Rules.{rule-of};
+ghost use Rattle.rule_text.specs.Rules.{rule_of};
 ghost use Rattle.rule_text.specs.RuleTexts.{lined, Follows, RulesRead};
 
 use super::rule::{RuleText, read_rule};
@@ -10,7 +10,7 @@ use words::word::{Marks, Word, line_end, split};
 
 /// Reads one line, which may hold no rule.
 fn read_line(heap: Global, text: &[u8], line: usize, rules: &mut Vec<RuleText>) -> Result<(), Fault>
-    ensures { Follows (lined line (map rule-of rules.old.items) text.now) (map rule-of rules.new.items) result }
+    ensures { Follows (lined line (map rule_of rules.old.items) text.now) (map rule_of rules.new.items) result }
 {
     let words = split(heap, text, Marks::Parentheses)?;
     if words.len() == 0 {

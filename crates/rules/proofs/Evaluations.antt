@@ -6,7 +6,7 @@ use Rattle.layout.specs.Layout.{Drawing}
 use Rattle.scanline.specs.Bands.{covers}
 use Rattle.region.specs.Firsts.{Squares}
 use Rattle.region.specs.declared.regions.Region.{Region}
-use Rattle.blocks.specs.Blocks.{near, in_a_block, free-block}
+use Rattle.blocks.specs.Blocks.{near, in_a_block, free_block}
 use Rattle.blocks.specs.Settled.{Settled, Exactly}
 use Rattle.blocks.proofs.Counts.{tell_same, near-some, some_near}
 use Rattle.blocks.proofs.Dilations.{settled_more}
@@ -137,9 +137,9 @@ module _ (d : Drawing) (m : ℕ) (s : Layers) (r : Rule) (sound : Sound r) (show
   unfolding breaks
   wide_is R k q h x y = (subst (λ f. Exactly (2 * k) f (λ x y. f x y && not (in_a_block k f x y)) R) path h).holds (reach m i) (fits k q) settled x y
 
-  pub apart-is : (R : Squares) (k : ℕ) → k ≤ max_number → Exactly (2 * k) A (λ x y. not (A x y) && not (free-block k A x y)) R → (x y : ℕ) → R x y ≡ breaks d (rules.apart (value r.terms i) k) x y
+  pub apart-is : (R : Squares) (k : ℕ) → k ≤ max_number → Exactly (2 * k) A (λ x y. not (A x y) && not (free_block k A x y)) R → (x y : ℕ) → R x y ≡ breaks d (rules.apart (value r.terms i) k) x y
   unfolding breaks
-  apart-is R k q h x y = (subst (λ f. Exactly (2 * k) f (λ x y. not (f x y) && not (free-block k f x y)) R) path h).holds (reach m i) (fits k q) settled x y
+  apart-is R k q h x y = (subst (λ f. Exactly (2 * k) f (λ x y. not (f x y) && not (free_block k f x y)) R) path h).holds (reach m i) (fits k q) settled x y
 
   pub inside_is : (R B : Squares) (j k : ℕ) → ((x y : ℕ) → B x y ≡ squares d (value r.terms j) x y) → k ≤ max_number → Exactly (2 * k) A (λ x y. B x y && not (surrounded k A x y)) R → (x y : ℕ) → R x y ≡ breaks d (rules.inside (value r.terms j) (value r.terms i) k) x y
   unfolding breaks

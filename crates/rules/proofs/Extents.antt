@@ -3,7 +3,7 @@ use Rattle.std.proofs.Common.{◌≡◌, ℕ, zero, suc, ◌+◌, ◌-◌, ◌*�
 use Rattle.std.proofs.lemmas.Bool.{cases_lt, cases_Bool, and_parts, or_cases, both_ways, false≢true, ltb-true, not-true, not_from_false}
 use Rattle.layout.specs.Layout.{Layout, nothing, box, both, moved, turned, mirrored, row, column, cell, Drawing, shifted, in_a_row, in_a_column, drawn_with, drawn}
 use Rattle.region.specs.Firsts.{Squares}
-use Rattle.blocks.specs.Blocks.{in_a_block, drawn_in, free-block}
+use Rattle.blocks.specs.Blocks.{in_a_block, drawn_in, free_block}
 use Rattle.blocks.proofs.Counts.{near-some, all_block, in_block}
 use Rattle.rules.specs.Rules.{Region, layer, and, or, without, grown, wide, apart, inside, surrounded, squares, breaks}
 use Rattle.rules.specs.Laws.{reach_of}
@@ -99,8 +99,8 @@ low-region d m h (grown n a) x y t =
     (omega (arith, w.0, s.3), omega (arith, w.1, s.5))
 
 -- beyond a set of squares there is a free block around each square
-pub free-beyond : (n m : ℕ) (s : Squares) → ((x y : ℕ) → s x y ≡ true → (x < m) × (y < m)) → (x y : ℕ) → (m ≤ x) ⊎ (m ≤ y) → free-block (suc n) s x y ≡ true
-unfolding free-block drawn_in
+pub free-beyond : (n m : ℕ) (s : Squares) → ((x y : ℕ) → s x y ≡ true → (x < m) × (y < m)) → (x y : ℕ) → (m ≤ x) ⊎ (m ≤ y) → free_block (suc n) s x y ≡ true
+unfolding free_block drawn_in
 free-beyond n m s h x y o =
     in_block (suc n) (λ u v. not (drawn_in (suc n) s u v)) (x + suc n) (y + suc n) (x + suc n) (y + suc n) (omega arith) (omega arith) (omega arith) (omega arith)
     (all_block (suc n) (λ u v. not (drawn_in (suc n) s u v)) (x + suc n) (y + suc n) (λ u v a b c d.
@@ -121,9 +121,9 @@ low_wide d m h r n x y t = low-region d m h r x y (and_parts (squares d r x y) (
 pub low-apart : (d : Drawing) (m : ℕ) → ((l x y : ℕ) → d l x y ≡ true → (x < m) × (y < m)) → (r : Region) (n x y : ℕ) → breaks d (apart r (suc n)) x y ≡ true → (x < m + reach_of r) × (y < m + reach_of r)
 unfolding breaks
 low-apart d m h r n x y t =
-    let p = and_parts (not (squares d r x y)) (not (free-block (suc n) (squares d r) x y)) t in
-    let none = not-true (free-block (suc n) (squares d r) x y) p.1 in
-    let far : (m + reach_of r ≤ x) ⊎ (m + reach_of r ≤ y) → ⊥ = λ o. both_ways (free-block (suc n) (squares d r) x y) none (free-beyond n (m + reach_of r) (squares d r) (low-region d m h r) x y o) in (
+    let p = and_parts (not (squares d r x y)) (not (free_block (suc n) (squares d r) x y)) t in
+    let none = not-true (free_block (suc n) (squares d r) x y) p.1 in
+    let far : (m + reach_of r ≤ x) ⊎ (m + reach_of r ≤ y) → ⊥ = λ o. both_ways (free_block (suc n) (squares d r) x y) none (free-beyond n (m + reach_of r) (squares d r) (low-region d m h r) x y o) in (
       elim (cases_lt x (m + reach_of r)) [ inl k ↦ k | inr k ↦ absurd (far (inl k)) ],
       elim (cases_lt y (m + reach_of r)) [ inl k ↦ k | inr k ↦ absurd (far (inr k)) ],
     )

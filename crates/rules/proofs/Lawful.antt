@@ -3,10 +3,10 @@ use Rattle.std.proofs.Common.{◌≡◌, ℕ, zero, suc, ◌+◌, ◌<◌, Bool,
 use Rattle.std.proofs.lemmas.Bool.{cases_lt, cases_Bool, and_parts, and_from, or_cases, both_ways, ltb-true, eqb-true, not-true, not_from_false}
 use Rattle.layout.specs.Layout.{nothing, box, both, Drawing, drawn_with, drawn}
 use Rattle.region.specs.Firsts.{Squares, First}
-use Rattle.blocks.specs.Blocks.{any_of, all_of, block, in_a_block, drawn_in, free-block}
+use Rattle.blocks.specs.Blocks.{any_of, all_of, block, in_a_block, drawn_in, free_block}
 use Rattle.blocks.proofs.Counts.{any_true, true_any, all_true}
 use Rattle.rules.specs.Rules.{Region, layer, and, Rule, wide, apart, inside, never, squares, breaks}
-use Rattle.rules.specs.Laws.{reach_of, Decided, two-boxes, ThreeBreak, Table}
+use Rattle.rules.specs.Laws.{reach_of, Decided, two_boxes, ThreeBreak, Table}
 use Rattle.rules.proofs.Extents.{size, low-drawn, low-region, low_wide, low-apart, low-inside}
 
 -- the first of the numbers below n that passes a test
@@ -45,7 +45,7 @@ search_row m s t =
 
 -- a gap of 0 is asked for: all squares outside the region break the rule
 gap_of_none : (d : Drawing) (m : ℕ) → ((l x y : ℕ) → d l x y ≡ true → (x < m) × (y < m)) → (r : Region) → breaks d (apart r 0) (m + reach_of r) 0 ≡ true
-unfolding breaks free-block in_a_block any_of
+unfolding breaks free_block in_a_block any_of
 gap_of_none d m h r =
     and_from (not (squares d r (m + reach_of r) 0)) true (not_from_false (squares d r (m + reach_of r) 0) (elim (cases_Bool (squares d r (m + reach_of r) 0)) [ inr g ↦ g | inl g ↦ let w = low-region d m h r (m + reach_of r) 0 g in absurd (omega (arith, w.0)) ])) refl
 
@@ -64,19 +64,19 @@ pub decided : Decided
 decided bodies n a r = decide (drawn bodies n a) (size bodies n a) (low-drawn bodies n a) r
 
 -- told by trying each square as far as the drawing can extend
-three : (r : Rule) (c : ℕ) → ((x y : ℕ) → breaks two-boxes r x y ≡ true → (x < 18) × (y < 18)) → breaks two-boxes r c 0 ≡ true → breaks two-boxes r c 1 ≡ true → breaks two-boxes r c 2 ≡ true → all_of 18 (λ x. all_of 18 (λ y. not (breaks two-boxes r x y) || (eqb x c && ltb y 3))) ≡ true → ThreeBreak two-boxes r c
+three : (r : Rule) (c : ℕ) → ((x y : ℕ) → breaks two_boxes r x y ≡ true → (x < 18) × (y < 18)) → breaks two_boxes r c 0 ≡ true → breaks two_boxes r c 1 ≡ true → breaks two_boxes r c 2 ≡ true → all_of 18 (λ x. all_of 18 (λ y. not (breaks two_boxes r x y) || (eqb x c && ltb y 3))) ≡ true → ThreeBreak two_boxes r c
 three r c low a b e h =
-    let only : (x y : ℕ) → breaks two-boxes r x y ≡ true → (x ≡ c) × (y < 3) = λ x y t.
+    let only : (x y : ℕ) → breaks two_boxes r x y ≡ true → (x ≡ c) × (y < 3) = λ x y t.
     let w = low x y t in
-    elim (or_cases (not (breaks two-boxes r x y)) (eqb x c && ltb y 3) (all_true 18 (λ y. not (breaks two-boxes r x y) || (eqb x c && ltb y 3)) (all_true 18 (λ x. all_of 18 (λ y. not (breaks two-boxes r x y) || (eqb x c && ltb y 3))) h x w.0) y w.1)) [
-      | inl g ↦ absurd (both_ways (breaks two-boxes r x y) (not-true (breaks two-boxes r x y) g) t)
+    elim (or_cases (not (breaks two_boxes r x y)) (eqb x c && ltb y 3) (all_true 18 (λ y. not (breaks two_boxes r x y) || (eqb x c && ltb y 3)) (all_true 18 (λ x. all_of 18 (λ y. not (breaks two_boxes r x y) || (eqb x c && ltb y 3))) h x w.0) y w.1)) [
+      | inl g ↦ absurd (both_ways (breaks two_boxes r x y) (not-true (breaks two_boxes r x y) g) t)
       | inr g ↦ let p = and_parts (eqb x c) (ltb y 3) g in (eqb-true x c p.0, ltb-true y 3 p.1)
     ] in
-    (a, b, e, only, (a, λ u v o. elim (cases_Bool (breaks two-boxes r u v)) [ inr g ↦ g | inl g ↦ elim o [ inl l ↦ absurd (omega (arith, l)) | inr p ↦ let w = only u v g in absurd (omega (arith, w.0, p.1)) ] ]))
+    (a, b, e, only, (a, λ u v o. elim (cases_Bool (breaks two_boxes r u v)) [ inr g ↦ g | inl g ↦ elim o [ inl l ↦ absurd (omega (arith, l)) | inr p ↦ let w = only u v g in absurd (omega (arith, w.0, p.1)) ] ]))
 
 pub table : Table
-unfolding breaks squares drawn drawn_with in_a_block free-block drawn_in block any_of all_of
+unfolding breaks squares drawn drawn_with in_a_block free_block drawn_in block any_of all_of
 table = (
-  three (wide (layer 0) 2) 6 (low_wide two-boxes 18 (low-drawn (λ k. nothing) 0 (both (box 0 0 0 5 3) (box 0 6 0 1 3))) (layer 0) 2) refl refl refl refl,
-  three (apart (layer 0) 2) 5 (low-apart two-boxes 18 (low-drawn (λ k. nothing) 0 (both (box 0 0 0 5 3) (box 0 6 0 1 3))) (layer 0) 1) refl refl refl refl,
+  three (wide (layer 0) 2) 6 (low_wide two_boxes 18 (low-drawn (λ k. nothing) 0 (both (box 0 0 0 5 3) (box 0 6 0 1 3))) (layer 0) 2) refl refl refl refl,
+  three (apart (layer 0) 2) 5 (low-apart two_boxes 18 (low-drawn (λ k. nothing) 0 (both (box 0 0 0 5 3) (box 0 6 0 1 3))) (layer 0) 1) refl refl refl refl,
 )

@@ -3,7 +3,7 @@ use Rattle.std.proofs.Common.{◌≡◌, ℕ, ◌+◌, ◌-◌, ◌<◌, ◌≤�
 use Rattle.std.proofs.lemmas.Bool.{cases_lt, cases_Bool, and_parts, and_from, or_cases, both_ways, leb-true, le-leb}
 use Rattle.layout.specs.Layout.{Drawing, shifted}
 use Rattle.region.specs.Firsts.{Squares}
-use Rattle.blocks.specs.Blocks.{near, block, in_a_block, drawn_in, free-block}
+use Rattle.blocks.specs.Blocks.{near, block, in_a_block, drawn_in, free_block}
 use Rattle.blocks.proofs.Counts.{tell_same, near-some, some_near, block_all, all_block, around, in_block}
 use Rattle.rules.specs.Rules.{Region, layer, and, or, without, grown, Rule, wide, apart, inside, never, surrounded, squares, breaks}
 use Rattle.rules.specs.Laws.{reach_of, reach, RulesMove}
@@ -95,8 +95,8 @@ drawn_in_moved n r b s t e far x y = tell_same (drawn_in n t (x + r) (y + b)) (d
     let g : t (x - n + r) (y - n + b) ≡ true = e (x - n) (y - n) ∙ q.1 in
     and_from (leb n (x + r)) (leb n (y + b) && t (x + r - n) (y + b - n)) (le-leb n (x + r) (omega (arith, k))) (and_from (leb n (y + b)) (t (x + r - n) (y + b - n)) (le-leb n (y + b) (omega (arith, l))) (subst (λ z. t (x + r - n) z ≡ true) v (subst (λ z. t z (y - n + b) ≡ true) u g))))
 
-free_moved : (n r b : ℕ) (s t : Squares) → Moved r b s t → ((u v : ℕ) → t u v ≡ true → (r ≤ u) × (b ≤ v)) → Moved r b (free-block n s) (free-block n t)
-unfolding free-block
+free_moved : (n r b : ℕ) (s t : Squares) → Moved r b s t → ((u v : ℕ) → t u v ≡ true → (r ≤ u) × (b ≤ v)) → Moved r b (free_block n s) (free_block n t)
+unfolding free_block
 free_moved n r b s t e far x y =
     let u : x + r + n ≡ x + n + r = omega arith in
     let v : y + b + n ≡ y + n + b = omega arith in

@@ -25,8 +25,8 @@ Decided =
     (bodies : ℕ → Layout) (n : ℕ) (a : Layout) (r : Rule) → ((x y : ℕ) → breaks (drawn bodies n a) r x y ≡ false) ⊎ ((x : ℕ) × (y : ℕ) × First (breaks (drawn bodies n a) r) x y)
 
 -- five columns of three squares, and after a free one a single column
-abbrev pub two-boxes : Drawing
-two-boxes = drawn (λ k. nothing) 0 (both (box 0 0 0 5 3) (box 0 6 0 1 3))
+abbrev pub two_boxes : Drawing
+two_boxes = drawn (λ k. nothing) 0 (both (box 0 0 0 5 3) (box 0 6 0 1 3))
 
 -- exactly the first three squares of a column break the rule
 abbrev pub ThreeBreak : Drawing → Rule → ℕ → Type 0
@@ -35,7 +35,7 @@ ThreeBreak d r c =
 
 -- the single column is too narrow, and the free one too
 abbrev pub Table : Type 0
-Table = ThreeBreak two-boxes (wide (layer 0) 2) 6 × ThreeBreak two-boxes (apart (layer 0) 2) 5
+Table = ThreeBreak two_boxes (wide (layer 0) 2) 6 × ThreeBreak two_boxes (apart (layer 0) 2) 5
 
 -- a drawing that keeps clear of the upper and left edges is judged alike wherever it is moved
 abbrev pub RulesMove : Type 0

@@ -2,7 +2,7 @@
 use Rattle.std.specs.Prelude.{ℕ, ◌+◌, ◌-◌, ◌*◌, Bool, true, false, not, ◌&&◌, ◌||◌, nat_le}
 use Rattle.layout.specs.Layout.{Drawing}
 use Rattle.region.specs.Firsts.{Squares}
-use Rattle.blocks.specs.Blocks.{all_of, near, in_a_block, free-block}
+use Rattle.blocks.specs.Blocks.{all_of, near, in_a_block, free_block}
 
 -- the squares of a layer; of two regions both, either, or the first without the second; or of one grown by n
 pub data Region : Type 0 where
@@ -35,6 +35,6 @@ surrounded n s x y = all_of (2 * n + 1) (λ i. all_of (2 * n + 1) (λ j. nat_le 
 -- inside: in the first region, and not all squares as near as n are there and in the second
 unfoldable pub breaks : Drawing → Rule → Squares
 breaks d (wide r n) x y = squares d r x y && not (in_a_block n (squares d r) x y)
-breaks d (apart r n) x y = not (squares d r x y) && not (free-block n (squares d r) x y)
+breaks d (apart r n) x y = not (squares d r x y) && not (free_block n (squares d r) x y)
 breaks d (inside a b n) x y = squares d a x y && not (surrounded n (squares d b) x y)
 breaks d (never r) x y = squares d r x y

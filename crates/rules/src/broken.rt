@@ -2,7 +2,7 @@
 ghost use Rattle.std.specs.Prelude.{◌≡◌, ℕ, ◌*◌, ◌^◌, ◌<◌, not, ◌&&◌, IfOk};
 ghost use Rattle.scanline.specs.Bands.{covers};
 ghost use Rattle.blocks.specs.Settled.{Exactly};
-ghost use Rattle.blocks.specs.Blocks.{in_a_block, free-block};
+ghost use Rattle.blocks.specs.Blocks.{in_a_block, free_block};
 ghost use Rattle.rules.specs.Rules.{surrounded};
 
 use blocks::{free, grow, open};
@@ -23,7 +23,7 @@ pub fn narrow(heap: Global, a: &Region, side: u64) -> Result<Region, AllocError>
 // The squares outside a region around which no block of `side` by `side` is free of it.
 pub fn close(heap: Global, a: &Region, side: u64) -> Result<Region, AllocError>
     requires { 0 < side }
-    ensures { IfOk result (λ v. Exactly (2 * side) (covers a.now.bands.items) (λ x y. not (covers a.now.bands.items x y) && not (free-block side (covers a.now.bands.items) x y)) (covers v.bands.items)) }
+    ensures { IfOk result (λ v. Exactly (2 * side) (covers a.now.bands.items) (λ x y. not (covers a.now.bands.items x y) && not (free_block side (covers a.now.bands.items) x y)) (covers v.bands.items)) }
 {
     let blocks = free(heap, a, side)?;
     let outside = a.complement(heap)?;

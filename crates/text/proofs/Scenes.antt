@@ -11,7 +11,7 @@ use Rattle.text.specs.Readings.{State, said_in}
 use Rattle.text.specs.Sheets.{Nodes, Joined, added, joined, joined_to}
 use Rattle.text.specs.Plans.{Drawing, blank, placed, sheeted, waiting, drawn, moved_on, begun, said, all_said, last, finished}
 use Rattle.text.specs.Plans as plans
-use Rattle.text.specs.Scenes.{Scene, Placed, empty, together, together_with, part-more, holding, put-down, changed, begins, shown, all_shown, picture, Draws}
+use Rattle.text.specs.Scenes.{Scene, Placed, empty, together, together_with, part_more, holding, put_down, changed, begins, shown, all_shown, picture, Draws}
 use Rattle.text.proofs.Cells.{NamesEnded, ends, AllEnded}
 use Rattle.text.proofs.Ended.{said-sane}
 use Rattle.text.specs.declared.statement.Statement.{Statement}
@@ -137,20 +137,20 @@ outer-part s p = record { cells = s.cells; outer = s.outer ++ p ∷ []; inner = 
 abbrev inner-part : Scene → Layout → Scene
 inner-part s p = record { cells = s.cells; outer = s.outer; inner = s.inner ++ p ∷ []; inside = s.inside; put = s.put }
 
-place-by : (d : Drawing) (s : Scene) (n : ℕ) (p : Layout) → Shows d s → Denotes d.sheet.nodes n p → (w : Option ℕ) → d.within ≡ w → Shows (placed d n) (part-more s p)
+place-by : (d : Drawing) (s : Scene) (n : ℕ) (p : Layout) → Shows d s → Denotes d.sheet.nodes n p → (w : Option ℕ) → d.within ≡ w → Shows (placed d n) (part_more s p)
 place-by d s n p h den None e =
     let shows : Shows (outer-more d n) (outer-part s p) = record { whole = h.whole; cells = h.cells; outer = each-push d.sheet.nodes d.outer s.outer n p h.outer den; inner = h.inner; within = h.within; put = h.put } in
-    subst (λ (D : Drawing). Shows D (part-more s p)) (sym (ap (λ u. by_some u (outer-more d n) (λ k. inner-more d n)) e))
+    subst (λ (D : Drawing). Shows D (part_more s p)) (sym (ap (λ u. by_some u (outer-more d n) (λ k. inner-more d n)) e))
     (subst (λ (S : Scene). Shows (outer-more d n) S) (sym (ap (λ t. cond t (inner-part s p) (outer-part s p)) (h.within ∙ ap is_some e))) shows)
 place-by d s n p h den (Some k) e =
     let shows : Shows (inner-more d n) (inner-part s p) = record { whole = h.whole; cells = h.cells; outer = h.outer; inner = each-push d.sheet.nodes d.inner s.inner n p h.inner den; within = h.within; put = h.put } in
-    subst (λ (D : Drawing). Shows D (part-more s p)) (sym (ap (λ u. by_some u (outer-more d n) (λ k. inner-more d n)) e))
+    subst (λ (D : Drawing). Shows D (part_more s p)) (sym (ap (λ u. by_some u (outer-more d n) (λ k. inner-more d n)) e))
     (subst (λ (S : Scene). Shows (inner-more d n) S) (sym (ap (λ t. cond t (inner-part s p) (outer-part s p)) (h.within ∙ ap is_some e))) shows)
 
-place-shows : (d : Drawing) (s : Scene) (n : ℕ) (p : Layout) → Shows d s → Denotes d.sheet.nodes n p → Shows (placed d n) (part-more s p)
+place-shows : (d : Drawing) (s : Scene) (n : ℕ) (p : Layout) → Shows d s → Denotes d.sheet.nodes n p → Shows (placed d n) (part_more s p)
 place-shows d s n p h den = place-by d s n p h den d.within refl
 
-draw_shows : (d : Drawing) (s : Scene) (ks : List ℕ) (line : ℕ) (p : Layout) → Shows d s → length ks ≡ 6 → Denotes (d.sheet.nodes ++ ks) (length d.sheet.lines) p → Shows (drawn d ks line) (part-more s p)
+draw_shows : (d : Drawing) (s : Scene) (ks : List ℕ) (line : ℕ) (p : Layout) → Shows d s → length ks ≡ 6 → Denotes (d.sheet.nodes ++ ks) (length d.sheet.lines) p → Shows (drawn d ks line) (part_more s p)
 draw_shows d s ks line p h l den =
     place-shows (sheeted d (added d.sheet ks (Some line))) s (length d.sheet.lines) p (shows-sheet d s (added d.sheet ks (Some line)) ks h refl (whole-added d.sheet ks (Some line) h.whole l)) den
 
@@ -159,11 +159,11 @@ abbrev moved_by : Drawing → Put → Drawing
 moved_by d p = drawn (waiting d None) (3 ∷ p.x ∷ p.y ∷ p.node ∷ 0 ∷ 0 ∷ []) p.line
 
 abbrev moved-part : Scene → Placed → Scene
-moved-part s q = part-more (holding s None) (moved q.x q.y q.what)
+moved-part s q = part_more (holding s None) (moved q.x q.y q.what)
 
-move_by : (d : Drawing) (s : Scene) → Shows d s → (p : Option Put) (q : Option Placed) → Waits d.sheet.nodes p q → d.put ≡ p → s.put ≡ q → Shows (moved_on d) (put-down s)
+move_by : (d : Drawing) (s : Scene) → Shows d s → (p : Option Put) (q : Option Placed) → Waits d.sheet.nodes p q → d.put ≡ p → s.put ≡ q → Shows (moved_on d) (put_down s)
 move_by d s h None None w e f =
-    subst (λ (D : Drawing). Shows D (put-down s)) (sym (ap (λ u. by_some u d (moved_by d)) e)) (subst (λ (S : Scene). Shows d S) (sym (ap (λ u. by_some u s (moved-part s)) f)) h)
+    subst (λ (D : Drawing). Shows D (put_down s)) (sym (ap (λ u. by_some u d (moved_by d)) e)) (subst (λ (S : Scene). Shows d S) (sym (ap (λ u. by_some u s (moved-part s)) f)) h)
 move_by d s h None (Some q) w e f = absurd w
 move_by d s h (Some p) None w e f = absurd w
 move_by d s h (Some p) (Some q) w e f =
@@ -171,11 +171,11 @@ move_by d s h (Some p) (Some q) w e f =
     let h0 : Shows (waiting d None) (holding s None) = record { whole = h.whole; cells = h.cells; outer = h.outer; inner = h.inner; within = h.within; put = tt } in
     let den : Denotes (d.sheet.nodes ++ ks) (length d.sheet.lines) (moved p.x p.y q.what) = a_moved (node-new d.sheet.nodes (length d.sheet.lines) ks h.whole refl) (below d.sheet h.whole w.0) (more d.sheet.nodes ks w.0) in
     let den' = subst (λ (u : ℕ). Denotes (d.sheet.nodes ++ ks) (length d.sheet.lines) (moved q.x u q.what)) w.2 (subst (λ (u : ℕ). Denotes (d.sheet.nodes ++ ks) (length d.sheet.lines) (moved u p.y q.what)) w.1 den) in
-    subst (λ (D : Drawing). Shows D (put-down s)) (sym (ap (λ u. by_some u d (moved_by d)) e))
+    subst (λ (D : Drawing). Shows D (put_down s)) (sym (ap (λ u. by_some u d (moved_by d)) e))
     (subst (λ (S : Scene). Shows (moved_by d p) S) (sym (ap (λ u. by_some u s (moved-part s)) f))
     (draw_shows (waiting d None) (holding s None) ks p.line (moved q.x q.y q.what) h0 refl den'))
 
-move_shows : (d : Drawing) (s : Scene) → Shows d s → Shows (moved_on d) (put-down s)
+move_shows : (d : Drawing) (s : Scene) → Shows d s → Shows (moved_on d) (put_down s)
 move_shows d s h = move_by d s h d.put s.put h.put refl refl
 
 -- a turn of the put that waits
@@ -258,10 +258,10 @@ begun-cells d (statement.Pin l x y) n = omega arith
 
 -- one statement, and all
 module _ (d : Drawing) (s : Scene) (h : Shows d s) (k : ℕ) (has : length d.cells ≡ k) where
-  next : (st : Statement) (n : ℕ) → NamesEnded k st → Shows (begun (moved_on d) st n) (begins (put-down s) st) × (length (begun (moved_on d) st n).cells ≡ k + ends st)
+  next : (st : Statement) (n : ℕ) → NamesEnded k st → Shows (begun (moved_on d) st n) (begins (put_down s) st) × (length (begun (moved_on d) st n).cells ≡ k + ends st)
   next st n w =
       let same : k ≡ length (moved_on d).cells = sym has ∙ sym (ap length (moved-cells d d.put refl)) in (
-        begin-shows (moved_on d) (put-down s) st n (move_shows d s h) (subst (λ (u : ℕ). NamesEnded u st) same w),
+        begin-shows (moved_on d) (put_down s) st n (move_shows d s h) (subst (λ (u : ℕ). NamesEnded u st) same w),
         begun-cells (moved_on d) st n ∙ ap (λ u. u + ends st) (sym same),
       )
 
@@ -304,12 +304,12 @@ draws ss w l x y =
     let s = all_shown empty ss in
     let h = move_shows d s (all_shows ss blank empty 0 shows-empty refl w) in
     let e = moved_on d in
-    let j = joins e.sheet e.outer None (put-down s).outer h.whole h.outer in
+    let j = joins e.sheet e.outer None (put_down s).outer h.whole h.outer in
     let t = joined e.sheet e.outer None in
     let ks = 3 ∷ 0 ∷ 0 ∷ t.node ∷ 0 ∷ 0 ∷ [] in
     let D = sheeted e t.sheet in
     let D' = sheeted D (added t.sheet ks None) in
-    let p = together (put-down s).outer in
+    let p = together (put_down s).outer in
     elim (cases_eq (suc t.node) (length t.sheet.lines)) [
       | inl q ↦ ap (λ b. layout_in (cond b D D').sheet.nodes l x y) (eq-eqb (suc t.node) (length t.sheet.lines) q) ∙ last-is t.sheet t.node p j.whole j.is q l x y
       | inr q ↦

@@ -28,14 +28,14 @@ meant s =
 abbrev pub layout_text : List ℕ → Result Meaning ℕ
 layout_text text = and_then (said_in text) (λ s. Ok (meant s))
 
-abbrev pub meaning-of : LayoutText → Meaning
-meaning-of t = record { nodes = vec_items t.nodes; lines = vec_items t.lines; pins = vec_items t.pins; names = names_of t.names }
+abbrev pub meaning_of : LayoutText → Meaning
+meaning_of t = record { nodes = vec_items t.nodes; lines = vec_items t.lines; pins = vec_items t.pins; names = names_of t.names }
 
 abbrev pub pin_named : Meaning → List ℕ → Option Pin
 pin_named m name = by_some (place-among m.names name) None (λ k. cond (nat_lt k (length m.pins)) (Some (slice_index_or m.pins k (record { layer = 0; x = 0; y = 0 }))) None)
 
 -- a text is read exactly if it means something; nothing is said where memory ran out
 abbrev pub LayoutRead : List ℕ → Result LayoutText Fault → Type 0
-LayoutRead text (Ok t) = layout_text text ≡ Ok (meaning-of t)
+LayoutRead text (Ok t) = layout_text text ≡ Ok (meaning_of t)
 LayoutRead text (Err (Refused e)) = (e ≡ Text (place_of e)) × (layout_text text ≡ Err (place_of e))
 LayoutRead text (Err Memory) = Unit {0}

@@ -1,7 +1,7 @@
 -- Statements drawn as nodes: which numbers a layout text means. Assumes nothing: these are definitions.
 use Rattle.std.specs.Prelude.{ℕ, suc, cond, List, [], ◌∷◌, ◌++◌, length, Some, None, vec_items, Option, ◌==◌, slice_index}
 use Rattle.words.specs.Steps.{by_some}
-use Rattle.text.specs.Sheets.{Nodes, added, joined, sheet-of}
+use Rattle.text.specs.Sheets.{Nodes, added, joined, sheet_of}
 use Rattle.text.specs.declared.statement.Statement.{Statement}
 use Rattle.text.specs.declared.statement.Statement.TheVariants as statement
 use Rattle.text.specs.declared.statement.Said.{Said}
@@ -20,7 +20,7 @@ pub record Drawing : Type 0 where
   pub pins : List Pin
 
 abbrev pub plan_of : Plan → Drawing
-plan_of p = record { sheet = sheet-of p.sheet; cells = vec_items p.cells; outer = vec_items p.outer; inner = vec_items p.inner; within = p.within; put = p.put; pins = vec_items p.pins }
+plan_of p = record { sheet = sheet_of p.sheet; cells = vec_items p.cells; outer = vec_items p.outer; inner = vec_items p.inner; within = p.within; put = p.put; pins = vec_items p.pins }
 
 abbrev pub blank : Drawing
 blank = record { sheet = record { nodes = []; lines = [] }; cells = []; outer = []; inner = []; within = None; put = None; pins = [] }

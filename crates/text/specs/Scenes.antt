@@ -33,8 +33,8 @@ abbrev pub together : List Layout → Layout
 together [] = nothing
 together (a ∷ as') = together_with a as'
 
-abbrev pub part-more : Scene → Layout → Scene
-part-more s a =
+abbrev pub part_more : Scene → Layout → Scene
+part_more s a =
     cond s.inside
     (record { cells = s.cells; outer = s.outer; inner = s.inner ++ a ∷ []; inside = s.inside; put = s.put })
     (record { cells = s.cells; outer = s.outer ++ a ∷ []; inner = s.inner; inside = s.inside; put = s.put })
@@ -43,34 +43,34 @@ abbrev pub holding : Scene → Option Placed → Scene
 holding s p = record { cells = s.cells; outer = s.outer; inner = s.inner; inside = s.inside; put = p }
 
 -- a put is moved after its turns
-abbrev pub put-down : Scene → Scene
-put-down s = by_some s.put s (λ p. part-more (holding s None) (moved p.x p.y p.what))
+abbrev pub put_down : Scene → Scene
+put_down s = by_some s.put s (λ p. part_more (holding s None) (moved p.x p.y p.what))
 
 abbrev pub changed : Scene → (Layout → Layout) → Scene
 changed s f = by_some s.put s (λ p. holding s (Some (record { what = f p.what; x = p.x; y = p.y })))
 
 -- each statement but a turn
 abbrev pub begins : Scene → Statement → Scene
-begins s (statement.Box l x y a h) = part-more s (box l x y a h)
+begins s (statement.Box l x y a h) = part_more s (box l x y a h)
 begins s statement.Cell = record { cells = s.cells; outer = s.outer; inner = []; inside = true; put = s.put }
 begins s statement.Close = record { cells = s.cells ++ together s.inner ∷ []; outer = s.outer; inner = s.inner; inside = false; put = s.put }
 begins s (statement.Put c x y) = holding s (Some (record { what = slice_index_or s.cells c nothing; x = x; y = y }))
 begins s (statement.Turned k) = s
 begins s (statement.Mirrored k) = s
-begins s (statement.Row m f c) = part-more s (row m f (slice_index_or s.cells c nothing))
-begins s (statement.Column m f c) = part-more s (column m f (slice_index_or s.cells c nothing))
+begins s (statement.Row m f c) = part_more s (row m f (slice_index_or s.cells c nothing))
+begins s (statement.Column m f c) = part_more s (column m f (slice_index_or s.cells c nothing))
 begins s (statement.Pin l x y) = s
 
 abbrev pub shown : Scene → Statement → Scene
-shown s (statement.Box l x y a h) = begins (put-down s) (statement.Box l x y a h)
-shown s statement.Cell = begins (put-down s) statement.Cell
-shown s statement.Close = begins (put-down s) statement.Close
-shown s (statement.Put c x y) = begins (put-down s) (statement.Put c x y)
+shown s (statement.Box l x y a h) = begins (put_down s) (statement.Box l x y a h)
+shown s statement.Cell = begins (put_down s) statement.Cell
+shown s statement.Close = begins (put_down s) statement.Close
+shown s (statement.Put c x y) = begins (put_down s) (statement.Put c x y)
 shown s (statement.Turned k) = changed s (turned k)
 shown s (statement.Mirrored k) = changed s (mirrored k)
-shown s (statement.Row m f c) = begins (put-down s) (statement.Row m f c)
-shown s (statement.Column m f c) = begins (put-down s) (statement.Column m f c)
-shown s (statement.Pin l x y) = begins (put-down s) (statement.Pin l x y)
+shown s (statement.Row m f c) = begins (put_down s) (statement.Row m f c)
+shown s (statement.Column m f c) = begins (put_down s) (statement.Column m f c)
+shown s (statement.Pin l x y) = begins (put_down s) (statement.Pin l x y)
 
 unfoldable pub all_shown : Scene → List Said → Scene
 all_shown s [] = s
@@ -78,7 +78,7 @@ all_shown s (t ∷ ts) = all_shown (shown s t.statement) ts
 
 -- the text is all its parts together
 abbrev pub picture : List Said → Layout
-picture ss = together (put-down (all_shown empty ss)).outer
+picture ss = together (put_down (all_shown empty ss)).outer
 
 -- nodes draw what a text says
 abbrev pub Draws : List ℕ → List ℕ → Type 0

@@ -6,8 +6,8 @@ pub record Nodes : Type 0 where
   pub nodes : List ℕ
   pub lines : List (Option ℕ)
 
-abbrev pub sheet-of : Sheet → Nodes
-sheet-of s = record { nodes = vec_items s.nodes; lines = vec_items s.lines }
+abbrev pub sheet_of : Sheet → Nodes
+sheet_of s = record { nodes = vec_items s.nodes; lines = vec_items s.lines }
 
 -- a node more: its number is how many there were
 abbrev pub added : Nodes → List ℕ → Option ℕ → Nodes

@@ -1,6 +1,6 @@
 // Layout texts, read into the numbers that the layout entries take.
 ghost use Rattle.std.specs.Prelude.{◌≡◌, IfOk};
-ghost use Rattle.text.specs.LayoutTexts.{LayoutRead, meaning-of, pin_named};
+ghost use Rattle.text.specs.LayoutTexts.{LayoutRead, meaning_of, pin_named};
 ghost use Rattle.text.specs.Scenes.{Draws};
 
 use super::plan::{Pin, Plan, draw_all};
@@ -22,7 +22,7 @@ pub struct LayoutText {
 impl LayoutText {
     /// The pin of a name.
     pub fn pin(&self, name: &[u8]) -> Option<Pin>
-        ensures { result ≡ pin_named (meaning-of self.now) name.now }
+        ensures { result ≡ pin_named (meaning_of self.now) name.now }
     {
         match self.names.find(name) {
             Some(k) => self.pins.get(k).copied(),

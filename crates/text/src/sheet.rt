@@ -1,6 +1,6 @@
 // Nodes of a layout, added one after another.
 ghost use Rattle.std.specs.Prelude.{◌≡◌, length, IfOk, OnOk};
-ghost use Rattle.text.specs.Sheets.{added, joined, sheet-of};
+ghost use Rattle.text.specs.Sheets.{added, joined, sheet_of};
 
 use std::alloc::AllocError;
 
@@ -14,8 +14,8 @@ pub(crate) struct Sheet {
 impl Sheet {
     /// Adds a node, and says which it is.
     pub(crate) fn add(&mut self, node: [u64; 6], line: Option<usize>) -> Result<u64, AllocError>
-        ensures number { IfOk result (λ n. n ≡ length (sheet-of self.old).lines) }
-        ensures after { OnOk result (sheet-of self.new ≡ added (sheet-of self.old) node line) }
+        ensures number { IfOk result (λ n. n ≡ length (sheet_of self.old).lines) }
+        ensures after { OnOk result (sheet_of self.new ≡ added (sheet_of self.old) node line) }
     {
         let number = self.lines.len() as u64;
         self.nodes.extend_from_slice(&node)?;
@@ -25,7 +25,7 @@ impl Sheet {
 
     /// Puts parts together, two at a time, and says which node that is.
     pub(crate) fn join(&mut self, parts: &[u64], line: Option<usize>) -> Result<u64, AllocError>
-        ensures { IfOk result (λ n. joined (sheet-of self.old) parts.now line ≡ record { sheet = sheet-of self.new; node = n }) }
+        ensures { IfOk result (λ n. joined (sheet_of self.old) parts.now line ≡ record { sheet = sheet_of self.new; node = n }) }
     {
         if parts.is_empty() {
             let node = self.add([0, 0, 0, 0, 0, 0], line)?;

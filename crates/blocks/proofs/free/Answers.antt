@@ -1,6 +1,6 @@
 use Rattle.std.proofs.Common.{◌≡◌, ℕ, suc, ◌-◌, ◌*◌, vec_items, subst, arith}
 use Rattle.scanline.specs.Bands.{covers}
-use Rattle.blocks.specs.Blocks.{free-block}
+use Rattle.blocks.specs.Blocks.{free_block}
 use Rattle.blocks.specs.Settled.{Exactly}
 use Rattle.blocks.proofs.Corner.{freed}
 use Rattle.blocks.proofs.free.Goals as goal
@@ -9,5 +9,5 @@ pub returns : goal.returns
 returns c =
     let a = covers (vec_items c.args.a.now.bands) in
     let e : suc (c.args.side - 1) ≡ c.args.side = omega (arith, c.requires) in
-    subst (λ n. Exactly (2 * n) a (free-block n a) (covers (vec_items c.in_ok-out.out.bands))) e
+    subst (λ n. Exactly (2 * n) a (free_block n a) (covers (vec_items c.in_ok-out.out.bands))) e
     (freed (c.args.side - 1) a _ _ _ _ c.in_ok-reached.ensures c.in_ok-ends.ensures c.in_ok-blocks.ensures c.in_ok-out.ensures)

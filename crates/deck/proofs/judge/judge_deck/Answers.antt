@@ -7,7 +7,7 @@ use Rattle.rules.specs.Layers.{Swept}
 use Rattle.rules.specs.Values.{Sound, Breaking}
 use Rattle.rules.proofs.Linkings.{sound_is, same-drawing}
 use Rattle.rule_text.specs.Operators.{rule_number}
-use Rattle.rule_text.specs.Rules.{rule-of}
+use Rattle.rule_text.specs.Rules.{rule_of}
 use Rattle.deck.specs.Decks.{Each, BrokenBy}
 use Rattle.deck.specs.Readings.{Held, Marks}
 use Rattle.deck.proofs.Sides.{each_right, each_on}
@@ -16,7 +16,7 @@ use Rattle.deck.proofs.judge.judge_deck.Goals as goal
 
 pub mark-deck-requires : goal.mark-deck-requires
 mark-deck-requires c = record {
-  sound = rw c.as-slice.ensures.value (each_right Held Sound (λ t r h. sound_is t.regions (rule_number t.kind) t.number r h) (map rule-of c.args.deck.now) (vec_items c.in-ok-rules.rules) c.in-ok-rules.ensures);
+  sound = rw c.as-slice.ensures.value (each_right Held Sound (λ t r h. sound_is t.regions (rule_number t.kind) t.number r h) (map rule_of c.args.deck.now) (vec_items c.in-ok-rules.rules) c.in-ok-rules.ensures);
   long = search rules;
 }
 
@@ -26,7 +26,7 @@ returns-in-err-layers c =
     rw (p.1, p.2) c.in-Ok.ensures.0
 
 pub judge-layers-requires : goal.judge-layers-requires
-judge-layers-requires c = rw c.as-slice-4.ensures.value (each_right Held Sound (λ t r h. sound_is t.regions (rule_number t.kind) t.number r h) (map rule-of c.args.deck.now) (vec_items c.in-ok-rules.rules) c.in-ok-rules.ensures)
+judge-layers-requires c = rw c.as-slice-4.ensures.value (each_right Held Sound (λ t r h. sound_is t.regions (rule_number t.kind) t.number r h) (map rule_of c.args.deck.now) (vec_items c.in-ok-rules.rules) c.in-ok-rules.ensures)
 
 pub returns-in-err-regions : goal.returns-in-err-regions
 returns-in-err-regions c =
@@ -46,5 +46,5 @@ returns c =
     let m : AllByRecursion (Marks wanted) rules = rw c.as-slice.ensures.value at c.mark-deck.ensures in
     let b : Each (Breaking layers) rules (vec_items c.in-ok-regions.regions) = rw c.as-slice-4.ensures.value at c.in-ok-regions.ensures in (
       written.0,
-      each_on Held (Breaking layers) (Marks wanted) (BrokenBy xs) (judged xs boxes layers wanted d written.2 w) (map rule-of c.args.deck.now) rules (vec_items c.in-ok-regions.regions) c.in-ok-rules.ensures m b,
+      each_on Held (Breaking layers) (Marks wanted) (BrokenBy xs) (judged xs boxes layers wanted d written.2 w) (map rule_of c.args.deck.now) rules (vec_items c.in-ok-regions.regions) c.in-ok-rules.ensures m b,
     )

@@ -6,7 +6,7 @@ use Rattle.rules.specs.Tests.{RuleRead}
 use Rattle.rules.specs.Numbers.{RuleTurned}
 use Rattle.rules.proofs.Linkings.{taken_is}
 use Rattle.rule_text.specs.Operators.{rule_number}
-use Rattle.rule_text.specs.Rules.{Rule, rule-of}
+use Rattle.rule_text.specs.Rules.{Rule, rule_of}
 use Rattle.deck.specs.Decks.{Each, Takes, Turns}
 use Rattle.deck.specs.Readings.{Held}
 use Rattle.deck.proofs.Sides.{each_more, each_left}
@@ -20,13 +20,13 @@ loop-place-preserved c =
     let i = c.loop-place.place in
     let deck = c.args.deck.now in
     let text = c.index-deck-place.result in
-    let h : Held (rule-of text) c.in-Ok.rule = rw (c.as-slice.ensures.value, c.number.ensures) at c.in-Ok.ensures in
-    let e : get_or (map rule-of deck) i (rule-of text) ≡ rule-of text = get_or-map rule-of deck i text (rule-of text) c.loop-place-test.true ∙ ap rule-of (sym c.index-deck-place.is) in
-    let l : i < length (map rule-of deck) = rw (length-map deck rule-of) c.loop-place-test.true in
-    let before : Each Held (take i (map rule-of deck)) (vec_items c.loop-place.rules) = rw (take-map rule-of i deck) c.loop-place.invariant in
-    subst (λ vs. Each Held (map rule-of (take (i + 1) deck)) vs) (sym c.in-ok-push.ensures.items)
-    (subst (λ ts. Each Held ts (vec_items c.loop-place.rules ++ c.in-Ok.rule ∷ [])) (take-map rule-of (i + 1) deck)
-    (each_more Held (map rule-of deck) (vec_items c.loop-place.rules) i (rule-of text) c.in-Ok.rule l before (subst (λ t. Held t c.in-Ok.rule) (sym e) h)))
+    let h : Held (rule_of text) c.in-Ok.rule = rw (c.as-slice.ensures.value, c.number.ensures) at c.in-Ok.ensures in
+    let e : get_or (map rule_of deck) i (rule_of text) ≡ rule_of text = get_or-map rule_of deck i text (rule_of text) c.loop-place-test.true ∙ ap rule_of (sym c.index-deck-place.is) in
+    let l : i < length (map rule_of deck) = rw (length-map deck rule_of) c.loop-place-test.true in
+    let before : Each Held (take i (map rule_of deck)) (vec_items c.loop-place.rules) = rw (take-map rule_of i deck) c.loop-place.invariant in
+    subst (λ vs. Each Held (map rule_of (take (i + 1) deck)) vs) (sym c.in-ok-push.ensures.items)
+    (subst (λ ts. Each Held ts (vec_items c.loop-place.rules ++ c.in-Ok.rule ∷ [])) (take-map rule_of (i + 1) deck)
+    (each_more Held (map rule_of deck) (vec_items c.loop-place.rules) i (rule_of text) c.in-Ok.rule l before (subst (λ t. Held t c.in-Ok.rule) (sym e) h)))
 
 pub returns-in-Err : goal.returns-in-Err
 returns-in-Err c =
@@ -34,12 +34,12 @@ returns-in-Err c =
     let deck = c.args.deck.now in
     let text = c.index-deck-place.result in
     record {
-      within = rw (length-map deck rule-of) c.loop-place-test.true;
-      rule = rule-of text;
-      there = λ d. get_or-map rule-of deck i text d c.loop-place-test.true ∙ ap rule-of (sym c.index-deck-place.is);
-      earlier = rw (take-map rule-of i deck) (each_left Held Takes (λ t r h. taken_is t.regions (rule_number t.kind) t.number r h) (map rule-of (take i deck)) (vec_items c.loop-place.rules) c.loop-place.invariant);
+      within = rw (length-map deck rule_of) c.loop-place-test.true;
+      rule = rule_of text;
+      there = λ d. get_or-map rule_of deck i text d c.loop-place-test.true ∙ ap rule_of (sym c.index-deck-place.is);
+      earlier = rw (take-map rule_of i deck) (each_left Held Takes (λ t r h. taken_is t.regions (rule_number t.kind) t.number r h) (map rule_of (take i deck)) (vec_items c.loop-place.rules) c.loop-place.invariant);
       turned = rw (c.as-slice.ensures.value, c.number.ensures) at c.in-Err.ensures;
     }
 
 pub returns : goal.returns
-returns c = subst (λ ts. Each Held (map rule-of ts) (vec_items c.loop-place.rules)) (take_all c.loop-place.place c.args.deck.now c.loop-place-test.false) c.loop-place.invariant
+returns c = subst (λ ts. Each Held (map rule_of ts) (vec_items c.loop-place.rules)) (take_all c.loop-place.place c.args.deck.now c.loop-place-test.false) c.loop-place.invariant

@@ -13,10 +13,10 @@ pub returns : goal.returns
 returns c =
     let k = technology_of c.args.process.now in
     let d = covered c.args.boxes.now in
-    let ts = vec_items c.in-ok-tiles.tiles in
-    let f = group c.in-ok-groups.groups in (
-      c.number-spots.auto.numbers,
-      counted k d ts c.in-ok-tiles.ensures f (subst (λ v. Named k d v f) c.as-slice.ensures.value c.in-ok-groups.ensures.1) c.args.spots.now
-          (length c.args.numbers.now) c.number-spots.new.numbers
-          (subst (λ v. Numbered f (tile_of_spot v c.args.spots.now) (length c.args.numbers.now) c.number-spots.new.numbers) c.as-slice-2.ensures.value c.number-spots.ensures),
+    let ts = vec_items c.in_ok-tiles.tiles in
+    let f = group c.in_ok-groups.groups in (
+      c.number_spots.auto.numbers,
+      counted k d ts c.in_ok-tiles.ensures f (subst (λ v. Named k d v f) c.as_slice.ensures.value c.in_ok-groups.ensures.1) c.args.spots.now
+          (length c.args.numbers.now) c.number_spots.new.numbers
+          (subst (λ v. Numbered f (tile_of_spot v c.args.spots.now) (length c.args.numbers.now) c.number_spots.new.numbers) c.as_slice-2.ensures.value c.number_spots.ensures),
     )

@@ -4,18 +4,18 @@ use Rattle.nets.specs.Processes.{technology_of}
 use Rattle.nets.proofs.Layers.{near-boxes, bounded_from, far-bridge, shows-bridge, bridges_from}
 use Rattle.nets.proofs.join.bridge_tiles.Goals as goal
 
-pub add-region-requires : goal.add-region-requires
-add-region-requires c =
+pub add_region-requires : goal.add_region-requires
+add_region-requires c =
     bounded_from _ _
-    (shows-bridge (technology_of c.args.process.now) c.args.boxes.now c.args.join _ _ _ _ _ c.in-ok-one.ensures c.in-ok-other.ensures c.in-ok-both.ensures
-    c.in-ok-layer.ensures c.in-ok-region.ensures)
+    (shows-bridge (technology_of c.args.process.now) c.args.boxes.now c.args.join _ _ _ _ _ c.in_ok-one.ensures c.in_ok-other.ensures c.in_ok-both.ensures
+    c.in_ok-layer.ensures c.in_ok-region.ensures)
     (far-bridge (technology_of c.args.process.now) c.args.boxes.now c.args.join c.requires)
 
 pub returns : goal.returns
 returns c =
-    bridges_from (technology_of c.args.process.now) c.args.boxes.now c.args.join _ _ _ _ _ _ c.in-ok-one.ensures c.in-ok-other.ensures c.in-ok-both.ensures
-    c.in-ok-layer.ensures c.in-ok-region.ensures
-    (vec_items c.new-bridges.result) c.new-bridges.ensures.items c.in-ok-add-region.ensures
+    bridges_from (technology_of c.args.process.now) c.args.boxes.now c.args.join _ _ _ _ _ _ c.in_ok-one.ensures c.in_ok-other.ensures c.in_ok-both.ensures
+    c.in_ok-layer.ensures c.in_ok-region.ensures
+    (vec_items c.new-bridges.result) c.new-bridges.ensures.items c.in_ok-add_region.ensures
 
-pub from-boxes-requires : goal.from-boxes-requires
-from-boxes-requires c = near-boxes c.args.boxes.now c.requires
+pub from_boxes-requires : goal.from_boxes-requires
+from_boxes-requires c = near-boxes c.args.boxes.now c.requires

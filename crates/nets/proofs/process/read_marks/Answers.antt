@@ -4,4 +4,4 @@ use Rattle.nets.proofs.Technologies.{marks-more}
 use Rattle.nets.proofs.process.read_marks.Goals as goal
 
 pub loop-layer-preserved : goal.loop-layer-preserved
-loop-layer-preserved c = marks-more c.args.numbers.now c.loop-layer.layer (vec_items c.loop-layer.marks) (vec_items c.push.new.self) c.loop-layer.invariant c.in-ok-push.ensures.items
+loop-layer-preserved c = marks-more c.args.numbers.now c.loop-layer.layer (vec_items c.loop-layer.marks) (vec_items c.push.new.self) c.loop-layer.invariant c.in_ok-push.ensures.items

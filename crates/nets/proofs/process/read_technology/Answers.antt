@@ -15,15 +15,15 @@ bounds-numbers-2 c = let f = ok_facts c.args.numbers.now c.requires in omega ari
 pub bounds-numbers-3 : goal.bounds-numbers-3
 bounds-numbers-3 c = let f = ok_facts c.args.numbers.now c.requires in omega arith
 
-pub read-marks-requires : goal.read-marks-requires
-read-marks-requires c = let f = ok_facts c.args.numbers.now c.requires in omega arith
+pub read_marks-requires : goal.read_marks-requires
+read_marks-requires c = let f = ok_facts c.args.numbers.now c.requires in omega arith
 
-pub overflow-add-layers : goal.overflow-add-layers
-overflow-add-layers c = let f = ok_facts c.args.numbers.now c.requires in omega arith
+pub overflow_add-layers : goal.overflow_add-layers
+overflow_add-layers c = let f = ok_facts c.args.numbers.now c.requires in omega arith
 
-pub read-joins-requires : goal.read-joins-requires
-read-joins-requires c = let f = ok_facts c.args.numbers.now c.requires in omega arith
+pub read_joins-requires : goal.read_joins-requires
+read_joins-requires c = let f = ok_facts c.args.numbers.now c.requires in omega arith
 
 pub returns : goal.returns
 returns c =
-    technology_same c.args.numbers.now (vec_items c.in-ok-carries.carries) (vec_items c.in-ok-joins.joins) _ _ c.in-ok-carries.ensures c.in-ok-joins.ensures refl refl
+    technology_same c.args.numbers.now (vec_items c.in_ok-carries.carries) (vec_items c.in_ok-joins.joins) _ _ c.in_ok-carries.ensures c.in_ok-joins.ensures refl refl

@@ -7,11 +7,11 @@ use Rattle.nets.proofs.process.sound_technology.Goals as goal
 pub returns-then-numbers-lt4 : goal.returns-then-numbers-lt4
 returns-then-numbers-lt4 c = sym (not-ok _ (λ f. omega (arith, f.long, c.if-numbers-lt4.true)))
 
-pub returns-then-layers-gt-MAX-LAYERS : goal.returns-then-layers-gt-MAX-LAYERS
-returns-then-layers-gt-MAX-LAYERS c = sym (not-ok _ (λ f. omega arith))
+pub returns-then-layers-gt-MAX_LAYERS : goal.returns-then-layers-gt-MAX_LAYERS
+returns-then-layers-gt-MAX_LAYERS c = sym (not-ok _ (λ f. omega arith))
 
-pub returns-then-joins-gt-MAX-JOINS : goal.returns-then-joins-gt-MAX-JOINS
-returns-then-joins-gt-MAX-JOINS c = sym (not-ok _ (λ f. omega arith))
+pub returns-then-joins-gt-MAX_JOINS : goal.returns-then-joins-gt-MAX_JOINS
+returns-then-joins-gt-MAX_JOINS c = sym (not-ok _ (λ f. omega arith))
 
 pub returns-then-numbers-layers : goal.returns-then-numbers-layers
 returns-then-numbers-layers c = sym (not-ok _ (λ f. omega arith))
@@ -26,10 +26,10 @@ pub returns : goal.returns
 returns c =
     let xs = c.args.numbers.now in
     let n : 4 + get_or xs 0 0 - 4 ≡ get_or xs 0 0 = omega arith in
-    c.all-marks.ensures ∙ (ap (λ k. all_at_most 1 (take k (drop 4 xs))) n ∙ sym (facts_ok xs (record {
+    c.all_marks.ensures ∙ (ap (λ k. all_at_most 1 (take k (drop 4 xs))) n ∙ sym (facts_ok xs (record {
       long = c.if-numbers-lt4.false;
-      layers = c.if-layers-gt-MAX-LAYERS.false;
-      joins = c.if-joins-gt-MAX-JOINS.false;
+      layers = c.if-layers-gt-MAX_LAYERS.false;
+      joins = c.if-joins-gt-MAX_JOINS.false;
       whole = c.if-numbers-layers.false;
       gate = c.if-gate-layers.false;
       mark = c.if-numbers-gate-ne1.false;

@@ -33,7 +33,7 @@ pub loop-i-preserved : goal.loop-i-preserved
 loop-i-preserved c =
     let here : c.loop-i.i < length c.loop-i.numbers = omega (arith, c.loop-i.auto.numbers, c.loop-i-test.true) in
     let old = c.loop-i.invariant in
-    elim c.match-find-tile.branch [
+    elim c.match-find_tile.branch [
       | in-None w ↦ rw (w.groups-is, w.given-is, w.numbers-is) (
         old.0,
         old.1,

@@ -6,19 +6,19 @@ use Rattle.nets.proofs.wire.wire_region.Goals as goal
 
 pub returns-then-not-carries : goal.returns-then-not-carries
 returns-then-not-carries c =
-    shows-none (technology_of c.args.process.now) c.args.boxes.now c.args.layer _ (sym c.carries.ensures ∙ c.if-not-carries.true) c.in-ok-nothing.ensures
+    shows-none (technology_of c.args.process.now) c.args.boxes.now c.args.layer _ (sym c.carries.ensures ∙ c.if-not-carries.true) c.in_ok-nothing.ensures
 
 pub returns-then-layer-process : goal.returns-then-layer-process
 returns-then-layer-process c =
-    shows-whole (technology_of c.args.process.now) c.args.boxes.now c.args.layer _ (sym c.carries.ensures ∙ c.if-not-carries.false) c.if-layer-process.true c.in-ok-region.ensures
+    shows-whole (technology_of c.args.process.now) c.args.boxes.now c.args.layer _ (sym c.carries.ensures ∙ c.if-not-carries.false) c.if-layer-process.true c.in_ok-region.ensures
 
 pub returns : goal.returns
 returns c =
     shows-crossed (technology_of c.args.process.now) c.args.boxes.now c.args.layer _ _ _ (sym c.carries.ensures ∙ c.if-not-carries.false) c.if-layer-process.false
-    c.in-ok-region.ensures c.in-ok-gates.ensures c.in-ok-rest.ensures
+    c.in_ok-region.ensures c.in_ok-gates.ensures c.in_ok-rest.ensures
 
-pub from-boxes-requires-2 : goal.from-boxes-requires-2
-from-boxes-requires-2 c = near-boxes c.args.boxes.now c.requires
+pub from_boxes-requires-2 : goal.from_boxes-requires-2
+from_boxes-requires-2 c = near-boxes c.args.boxes.now c.requires
 
-pub from-boxes-requires-3 : goal.from-boxes-requires-3
-from-boxes-requires-3 c = near-boxes c.args.boxes.now c.requires
+pub from_boxes-requires-3 : goal.from_boxes-requires-3
+from_boxes-requires-3 c = near-boxes c.args.boxes.now c.requires

@@ -7,13 +7,13 @@ use Rattle.nets.specs.Processes.{technology_of}
 use Rattle.nets.proofs.Layers.{bounded_from, far-wire, layered_more, layered_all}
 use Rattle.nets.proofs.wire.wire_tiles.Goals as goal
 
-pub add-region-requires : goal.add-region-requires
-add-region-requires c =
-    bounded_from _ _ c.in-ok-region.ensures (far-wire (technology_of c.args.process.now) c.args.boxes.now c.loop-layer.layer c.requires)
+pub add_region-requires : goal.add_region-requires
+add_region-requires c =
+    bounded_from _ _ c.in_ok-region.ensures (far-wire (technology_of c.args.process.now) c.args.boxes.now c.loop-layer.layer c.requires)
 
 pub loop-layer-preserved : goal.loop-layer-preserved
 loop-layer-preserved c =
-    layered_more (wire (technology_of c.args.process.now) (covered c.args.boxes.now)) c.loop-layer.layer _ _ _ c.loop-layer.invariant c.in-ok-region.ensures c.in-ok-add-region.ensures
+    layered_more (wire (technology_of c.args.process.now) (covered c.args.boxes.now)) c.loop-layer.layer _ _ _ c.loop-layer.invariant c.in_ok-region.ensures c.in_ok-add_region.ensures
 
 pub returns : goal.returns
 returns c =
