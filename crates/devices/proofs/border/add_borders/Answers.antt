@@ -16,19 +16,19 @@ channel-u-requires c = let s = All-get_or Near c.args.meetings.now c.loop-tile.t
 pub wire-x-requires : goal.wire-x-requires
 wire-x-requires c = let s = All-get_or Near c.args.meetings.now c.loop-tile.tile-index none c.loop-tile-test.true c.requires.near in record { across = omega arith; down = omega arith }
 
-pub loop-tile-preserved-in-default : goal.loop-tile-preserved-in-default
-loop-tile-preserved-in-default c =
-    added-skip _ _ _ _ _ _ _ _ _ _ c.loop-tile.invariant (λ i j p q. c.in-default.ensures i (holds_at _ _ _ _ _ _ c.channel-u.ensures.across c.channel-u.ensures.down p))
+pub loop-tile-preserved-in_default : goal.loop-tile-preserved-in_default
+loop-tile-preserved-in_default c =
+    added-skip _ _ _ _ _ _ _ _ _ _ c.loop-tile.invariant (λ i j p q. c.in_default.ensures i (holds_at _ _ _ _ _ _ c.channel-u.ensures.across c.channel-u.ensures.down p))
 
-pub loop-tile-preserved-in-default-root-at : goal.loop-tile-preserved-in-default-root-at
-loop-tile-preserved-in-default-root-at c =
-    added-skip _ _ _ _ _ _ _ _ _ _ c.loop-tile.invariant (λ i j p q. c.in-default-root-at.ensures j (holds_at _ _ _ _ _ _ c.wire-x.ensures.across c.wire-x.ensures.down q))
+pub loop-tile-preserved-in_default-root_at : goal.loop-tile-preserved-in_default-root_at
+loop-tile-preserved-in_default-root_at c =
+    added-skip _ _ _ _ _ _ _ _ _ _ c.loop-tile.invariant (λ i j p q. c.in_default-root_at.ensures j (holds_at _ _ _ _ _ _ c.wire-x.ensures.across c.wire-x.ensures.down q))
 
 pub loop-tile-preserved : goal.loop-tile-preserved
 loop-tile-preserved c =
     let p = c.in-Some.ensures in
-    let q = c.in-Some-root-at.ensures in
-    added_more _ _ _ _ _ _ _ _ _ _ c.loop-tile.invariant _ _ c.in-ok-push.ensures.items (record {
+    let q = c.in-Some-root_at.ensures in
+    added_more _ _ _ _ _ _ _ _ _ _ c.loop-tile.invariant _ _ c.in_ok-push.ensures.items (record {
       one = p.0;
       other = q.0;
       under = holds_at _ _ _ _ _ _ (sym c.channel-u.ensures.across) (sym c.channel-u.ensures.down) p.1;

@@ -6,22 +6,22 @@ use Rattle.devices.specs.Crossings.{Adding}
 use Rattle.devices.proofs.Borders.{meeting-bounded, meeting-from, meeting-near}
 use Rattle.devices.proofs.border.add_side.Goals as goal
 
-pub add-region-requires : goal.add-region-requires
-add-region-requires c =
-    meeting-bounded c.args.direction c.args.crossing.now.layer (vec_items c.args.crossing.now.channel.bands) (vec_items c.args.crossing.now.wire.bands) _ c.in-ok-region.ensures c.requires.channel
+pub add_region-requires : goal.add_region-requires
+add_region-requires c =
+    meeting-bounded c.args.direction c.args.crossing.now.layer (vec_items c.args.crossing.now.channel.bands) (vec_items c.args.crossing.now.wire.bands) _ c.in_ok-region.ensures c.requires.channel
 
-pub add-borders-requires : goal.add-borders-requires
-add-borders-requires c = record {
+pub add_borders-requires : goal.add_borders-requires
+add_borders-requires c = record {
   laid = c.requires;
-  near = subst (AllByRecursion Near) (sym c.as-slice.ensures.value)
-      (meeting-near c.args.direction c.args.crossing.now.layer (vec_items c.args.crossing.now.channel.bands) (vec_items c.args.crossing.now.wire.bands) _ c.in-ok-region.ensures c.requires.channel
-      (vec_items c.new-meetings.result) (vec_items c.add-region.new.tiles) c.new-meetings.ensures.items c.in-ok-add-region.ensures);
+  near = subst (AllByRecursion Near) (sym c.as_slice.ensures.value)
+      (meeting-near c.args.direction c.args.crossing.now.layer (vec_items c.args.crossing.now.channel.bands) (vec_items c.args.crossing.now.wire.bands) _ c.in_ok-region.ensures c.requires.channel
+      (vec_items c.new-meetings.result) (vec_items c.add_region.new.tiles) c.new-meetings.ensures.items c.in_ok-add_region.ensures);
 }
 
 pub returns : goal.returns
 returns c = record {
-  boxes = vec_items c.add-region.new.tiles;
-  meeting = meeting-from c.args.direction c.args.crossing.now.layer (vec_items c.args.crossing.now.channel.bands) (vec_items c.args.crossing.now.wire.bands) _ c.in-ok-region.ensures
-      (vec_items c.new-meetings.result) (vec_items c.add-region.new.tiles) c.new-meetings.ensures.items c.in-ok-add-region.ensures;
-  added = subst (λ v. Adding c.args.direction c.args.crossing.now v (length v) (vec_items c.args.borders.now) (vec_items c.add-borders.new.borders)) c.as-slice.ensures.value c.in-ok-add-borders.ensures;
+  boxes = vec_items c.add_region.new.tiles;
+  meeting = meeting-from c.args.direction c.args.crossing.now.layer (vec_items c.args.crossing.now.channel.bands) (vec_items c.args.crossing.now.wire.bands) _ c.in_ok-region.ensures
+      (vec_items c.new-meetings.result) (vec_items c.add_region.new.tiles) c.new-meetings.ensures.items c.in_ok-add_region.ensures;
+  added = subst (λ v. Adding c.args.direction c.args.crossing.now v (length v) (vec_items c.args.borders.now) (vec_items c.add_borders.new.borders)) c.as_slice.ensures.value c.in_ok-add_borders.ensures;
 }

@@ -4,4 +4,4 @@ use Rattle.devices.proofs.border.find_borders.Goals as goal
 
 pub returns : goal.returns
 returns c =
-    fringed _ _ _ _ _ _ _ _ _ _ _ _ c.new-borders.ensures.items c.in-ok-add-side.ensures c.in-ok-add-side-2.ensures c.in-ok-add-side-3.ensures c.in-ok-add-side-4.ensures
+    fringed _ _ _ _ _ _ _ _ _ _ _ _ c.new-borders.ensures.items c.in_ok-add_side.ensures c.in_ok-add_side-2.ensures c.in_ok-add_side-3.ensures c.in_ok-add_side-4.ensures

@@ -10,19 +10,19 @@ use Rattle.devices.proofs.entry.read_boxes.Goals as goal
 
 pub gather-requires : goal.gather-requires
 gather-requires c =
-    let cr = c.in-ok-crossing.crossing in
-    subst (λ n. AllByRecursion (λ b. b.channel < n) c.as-slice.result.now) (sym cr.channels.tiles.ok.0 ∙ sym c.len-count.ensures)
-    (subst (λ v. AllByRecursion (λ b. b.channel < length (vec_items cr.channels.tiles)) v) (sym c.as-slice.ensures.value)
-    (few-channels (technology_of c.args.process.now) (covered c.args.boxes.now) cr c.in-ok-crossing.ensures (vec_items c.in-ok-borders.borders) c.in-ok-borders.ensures))
+    let cr = c.in_ok-crossing.crossing in
+    subst (λ n. AllByRecursion (λ b. b.channel < n) c.as_slice.result.now) (sym cr.channels.tiles.ok.0 ∙ sym c.len-count.ensures)
+    (subst (λ v. AllByRecursion (λ b. b.channel < length (vec_items cr.channels.tiles)) v) (sym c.as_slice.ensures.value)
+    (few-channels (technology_of c.args.process.now) (covered c.args.boxes.now) cr c.in_ok-crossing.ensures (vec_items c.in_ok-borders.borders) c.in_ok-borders.ensures))
 
 pub returns : goal.returns
 returns c =
     let k = technology_of c.args.process.now in
     let d = covered c.args.boxes.now in
-    let cr = c.in-ok-crossing.crossing in
+    let cr = c.in_ok-crossing.crossing in
     let count : c.len-count.result ≡ length (vec_items cr.channels.tiles) = c.len-count.ensures ∙ cr.channels.tiles.ok.0 in
-    c.in-ok-reading.ensures k d
-    (subst (λ v. Known k d (vec_items cr.channels.tiles) (vec_items cr.channels.roots) v) (sym c.as-slice-2.ensures.value)
-    (known_from k d cr c.in-ok-crossing.ensures (vec_items c.in-ok-borders.borders) c.in-ok-borders.ensures (vec_items c.in-ok-terminals.terminals)
-    (subst (λ v. Gathered v (length (vec_items cr.channels.tiles)) (vec_items c.in-ok-terminals.terminals)) c.as-slice.ensures.value
-    (subst (λ n. Gathered c.as-slice.result.now n (vec_items c.in-ok-terminals.terminals)) count c.in-ok-terminals.ensures))))
+    c.in_ok-reading.ensures k d
+    (subst (λ v. Known k d (vec_items cr.channels.tiles) (vec_items cr.channels.roots) v) (sym c.as_slice-2.ensures.value)
+    (known_from k d cr c.in_ok-crossing.ensures (vec_items c.in_ok-borders.borders) c.in_ok-borders.ensures (vec_items c.in_ok-terminals.terminals)
+    (subst (λ v. Gathered v (length (vec_items cr.channels.tiles)) (vec_items c.in_ok-terminals.terminals)) c.as_slice.ensures.value
+    (subst (λ n. Gathered c.as_slice.result.now n (vec_items c.in_ok-terminals.terminals)) count c.in_ok-terminals.ensures))))

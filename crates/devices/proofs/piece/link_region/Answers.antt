@@ -5,6 +5,6 @@ use Rattle.devices.proofs.piece.link_region.Goals as goal
 
 pub returns : goal.returns
 returns c =
-    linked-from c.in-ok-groups.groups (vec_items c.in-ok-roots.roots) c.in-ok-roots.ensures.1 c.args.layer (vec_items c.args.region.now.bands) (vec_items c.new-tiles.result)
-    (vec_items c.add-region.new.tiles) c.as-slice.result.now c.new-tiles.ensures.items c.in-ok-add-region.ensures c.as-slice.ensures.value c.in-ok-groups.ensures.1
-    (omega (arith, c.in-ok-roots.ensures.0, c.add-region.new.tiles.ok.0, c.len.ensures))
+    linked-from c.in_ok-groups.groups (vec_items c.in_ok-roots.roots) c.in_ok-roots.ensures.1 c.args.layer (vec_items c.args.region.now.bands) (vec_items c.new-tiles.result)
+    (vec_items c.add_region.new.tiles) c.as_slice.result.now c.new-tiles.ensures.items c.in_ok-add_region.ensures c.as_slice.ensures.value c.in_ok-groups.ensures.1
+    (omega (arith, c.in_ok-roots.ensures.0, c.add_region.new.tiles.ok.0, c.len.ensures))

@@ -15,7 +15,7 @@ pub loop-i-preserved : goal.loop-i-preserved
 loop-i-preserved c = (
   c.find-root.ensures.len ∙ c.loop-i.invariant.0,
   alike-on _ (group c.loop-i.groups) _ c.loop-i.invariant.1 c.find-root.ensures.alike,
-  rooted_more _ c.loop-i.i c.find-root.result (vec_items c.loop-i.roots) _ (c.find-root.ensures.root ∙ c.loop-i.invariant.1.alike c.loop-i.i) c.in-ok-push.ensures.items c.loop-i.invariant.2,
+  rooted_more _ c.loop-i.i c.find-root.result (vec_items c.loop-i.roots) _ (c.find-root.ensures.root ∙ c.loop-i.invariant.1.alike c.loop-i.i) c.in_ok-push.ensures.items c.loop-i.invariant.2,
 )
 
 pub returns : goal.returns

@@ -7,6 +7,6 @@ use Rattle.devices.proofs.piece.wire_pieces.Goals as goal
 
 pub returns : goal.returns
 returns c =
-    wired-from c.in-ok-groups.groups (vec_items c.in-ok-roots.roots) c.in-ok-roots.ensures.1 (technology_of c.args.process.now) (covered c.args.boxes.now)
-    (vec_items c.in-ok-tiles.tiles) c.as-slice.result.now c.in-ok-tiles.ensures c.as-slice.ensures.value c.in-ok-groups.ensures.1
-    (omega (arith, c.in-ok-roots.ensures.0, c.in-ok-tiles.tiles.ok.0, c.len.ensures))
+    wired-from c.in_ok-groups.groups (vec_items c.in_ok-roots.roots) c.in_ok-roots.ensures.1 (technology_of c.args.process.now) (covered c.args.boxes.now)
+    (vec_items c.in_ok-tiles.tiles) c.as_slice.result.now c.in_ok-tiles.ensures c.as_slice.ensures.value c.in_ok-groups.ensures.1
+    (omega (arith, c.in_ok-roots.ensures.0, c.in_ok-tiles.tiles.ok.0, c.len.ensures))

@@ -9,10 +9,10 @@ loop-i-init c = written_none c.args.devices.now c.args.room.now
 
 pub loop-i-preserved : goal.loop-i-preserved
 loop-i-preserved c =
-    let one = put-from _ _ _ c.loop-i.room c.write-spot.new.room (omega (arith, c.requires, c.loop-i-test.true, c.loop-i.auto.room)) c.write-spot.ensures in
-    let two = put-from _ _ _ c.write-spot.new.room c.write-spot-in-loop-i.new.room (omega (arith, c.requires, c.loop-i-test.true, c.loop-i.auto.room, one.long)) c.write-spot-in-loop-i.ensures in
-    let three = put-from _ _ _ c.write-spot-in-loop-i.new.room c.write-spot-in-loop-i-2.new.room (omega (arith, c.requires, c.loop-i-test.true, c.loop-i.auto.room, one.long, two.long)) c.write-spot-in-loop-i-2.ensures in
-    written-more c.args.devices.now c.loop-i.i c.args.room.now c.loop-i.room c.write-spot.new.room c.write-spot-in-loop-i.new.room c.write-spot-in-loop-i-2.new.room c.loop-i.invariant one two three
+    let one = put-from _ _ _ c.loop-i.room c.write_spot.new.room (omega (arith, c.requires, c.loop-i-test.true, c.loop-i.auto.room)) c.write_spot.ensures in
+    let two = put-from _ _ _ c.write_spot.new.room c.write_spot-in-loop-i.new.room (omega (arith, c.requires, c.loop-i-test.true, c.loop-i.auto.room, one.long)) c.write_spot-in-loop-i.ensures in
+    let three = put-from _ _ _ c.write_spot-in-loop-i.new.room c.write_spot-in-loop-i-2.new.room (omega (arith, c.requires, c.loop-i-test.true, c.loop-i.auto.room, one.long, two.long)) c.write_spot-in-loop-i-2.ensures in
+    written-more c.args.devices.now c.loop-i.i c.args.room.now c.loop-i.room c.write_spot.new.room c.write_spot-in-loop-i.new.room c.write_spot-in-loop-i-2.new.room c.loop-i.invariant one two three
 
 pub returns : goal.returns
 returns c =

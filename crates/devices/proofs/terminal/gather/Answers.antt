@@ -11,8 +11,8 @@ use Rattle.devices.proofs.terminal.gather.Goals as goal
 
 pub loop-border-init : goal.loop-border-init
 loop-border-init c =
-    let e = c.in-ok-all.ensures.items-if-clones-equal (λ y e. e) in
-    (ap length e ∙ length-replicate {A = Terminals} c.args.count Isolated, sums_none c.args.count c.args.borders.now (vec_items c.in-ok-all.all) e)
+    let e = c.in_ok-all.ensures.items_if_clones_equal (λ y e. e) in
+    (ap length e ∙ length-replicate {A = Terminals} c.args.count Isolated, sums_none c.args.count c.args.borders.now (vec_items c.in_ok-all.all) e)
 
 pub index-requires : goal.index-requires
 index-requires c =
@@ -23,8 +23,8 @@ index-requires c =
       c.loop-border.all.ok.0,
     )
 
-pub index-mut-requires : goal.index-mut-requires
-index-mut-requires c =
+pub index_mut-requires : goal.index_mut-requires
+index_mut-requires c =
     omega (
       arith,
       All-get_or (λ b. b.channel < c.args.count) c.args.borders.now c.loop-border.border-index (record { channel = 0; net = 0; x = 0; y = 0 }) c.loop-border-test.true c.requires,
@@ -40,9 +40,9 @@ loop-border-preserved c =
     let b : Border = get_or bs i (record { channel = 0; net = 0; x = 0; y = 0 }) in
     let inside : b.channel < length es = omega (arith, All-get_or (λ b. b.channel < c.args.count) bs i (record { channel = 0; net = 0; x = 0; y = 0 }) c.loop-border-test.true c.requires, c.loop-border.invariant.0) in
     let read : c.index.result.now ≡ get_or es b.channel Isolated = get_or_read es b.channel c.index.result.now inside c.index.ensures Isolated in (
-      length-set es b.channel c.with-one.result ∙ c.loop-border.invariant.0,
-      sums-step bs i es b c.loop-border-test.true (get_or_default bs i b (record { channel = 0; net = 0; x = 0; y = 0 }) c.loop-border-test.true) inside c.loop-border.invariant.1 c.with-one.result
-          (c.with-one.ensures ∙ ap (λ t. with_one_lem t (terminal_of b)) read),
+      length-set es b.channel c.with_one.result ∙ c.loop-border.invariant.0,
+      sums-step bs i es b c.loop-border-test.true (get_or_default bs i b (record { channel = 0; net = 0; x = 0; y = 0 }) c.loop-border-test.true) inside c.loop-border.invariant.1 c.with_one.result
+          (c.with_one.ensures ∙ ap (λ t. with_one_lem t (terminal_of b)) read),
     )
 
 pub returns : goal.returns
