@@ -14,23 +14,23 @@ use Rattle.deck.proofs.Sides.{each_right, each_on}
 use Rattle.deck.proofs.Judgements.{judged}
 use Rattle.deck.proofs.judge.judge_deck.Goals as goal
 
-pub mark-deck-requires : goal.mark-deck-requires
-mark-deck-requires c = record {
-  sound = rw c.as-slice.ensures.value (each_right Held Sound (λ t r h. sound_is t.regions (rule_number t.kind) t.number r h) (map rule_of c.args.deck.now) (vec_items c.in-ok-rules.rules) c.in-ok-rules.ensures);
+pub mark_deck-requires : goal.mark_deck-requires
+mark_deck-requires c = record {
+  sound = rw c.as_slice.ensures.value (each_right Held Sound (λ t r h. sound_is t.regions (rule_number t.kind) t.number r h) (map rule_of c.args.deck.now) (vec_items c.in_ok-rules.rules) c.in_ok-rules.ensures);
   long = search rules;
 }
 
-pub returns-in-err-layers : goal.returns-in-err-layers
-returns-in-err-layers c =
-    let p = err_from_is_err_and c.from-residual-in-err-layers.result c.from-residual-in-err-layers.ensures.1 in
+pub returns-in_err-layers : goal.returns-in_err-layers
+returns-in_err-layers c =
+    let p = err_from_is_err_and c.from_residual-in_err-layers.result c.from_residual-in_err-layers.ensures.1 in
     rw (p.1, p.2) c.in-Ok.ensures.0
 
-pub judge-layers-requires : goal.judge-layers-requires
-judge-layers-requires c = rw c.as-slice-4.ensures.value (each_right Held Sound (λ t r h. sound_is t.regions (rule_number t.kind) t.number r h) (map rule_of c.args.deck.now) (vec_items c.in-ok-rules.rules) c.in-ok-rules.ensures)
+pub judge_layers-requires : goal.judge_layers-requires
+judge_layers-requires c = rw c.as_slice-4.ensures.value (each_right Held Sound (λ t r h. sound_is t.regions (rule_number t.kind) t.number r h) (map rule_of c.args.deck.now) (vec_items c.in_ok-rules.rules) c.in_ok-rules.ensures)
 
-pub returns-in-err-regions : goal.returns-in-err-regions
-returns-in-err-regions c =
-    let p = err_from_is_err_and c.from-residual-in-err-regions.result c.from-residual-in-err-regions.ensures.1 in
+pub returns-in_err-regions : goal.returns-in_err-regions
+returns-in_err-regions c =
+    let p = err_from_is_err_and c.from_residual-in_err-regions.result c.from_residual-in_err-regions.ensures.1 in
     rw (p.1, p.2) c.in-Ok.ensures.0
 
 pub returns : goal.returns
@@ -38,13 +38,13 @@ returns c =
     let xs = c.args.layout.now in
     let boxes = vec_items c.in-Ok.boxes in
     let written = c.in-Ok.ensures in
-    let rules = vec_items c.in-ok-rules.rules in
-    let layers = c.in-ok-layers.layers in
-    let wanted = vec_items c.mark-deck.new.wanted in
+    let rules = vec_items c.in_ok-rules.rules in
+    let layers = c.in_ok-layers.layers in
+    let wanted = vec_items c.mark_deck.new.wanted in
     let d : covered boxes ≡ layout_in xs = same-drawing _ _ written.3 in
-    let w : Swept (covered boxes) wanted layers = rw (c.as-slice-2.ensures.value, c.as-slice-3.ensures.value) at c.in-ok-layers.ensures in
-    let m : AllByRecursion (Marks wanted) rules = rw c.as-slice.ensures.value at c.mark-deck.ensures in
-    let b : Each (Breaking layers) rules (vec_items c.in-ok-regions.regions) = rw c.as-slice-4.ensures.value at c.in-ok-regions.ensures in (
+    let w : Swept (covered boxes) wanted layers = rw (c.as_slice-2.ensures.value, c.as_slice-3.ensures.value) at c.in_ok-layers.ensures in
+    let m : AllByRecursion (Marks wanted) rules = rw c.as_slice.ensures.value at c.mark_deck.ensures in
+    let b : Each (Breaking layers) rules (vec_items c.in_ok-regions.regions) = rw c.as_slice-4.ensures.value at c.in_ok-regions.ensures in (
       written.0,
-      each_on Held (Breaking layers) (Marks wanted) (BrokenBy xs) (judged xs boxes layers wanted d written.2 w) (map rule_of c.args.deck.now) rules (vec_items c.in-ok-regions.regions) c.in-ok-rules.ensures m b,
+      each_on Held (Breaking layers) (Marks wanted) (BrokenBy xs) (judged xs boxes layers wanted d written.2 w) (map rule_of c.args.deck.now) rules (vec_items c.in_ok-regions.regions) c.in_ok-rules.ensures m b,
     )

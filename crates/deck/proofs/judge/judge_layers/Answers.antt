@@ -17,8 +17,8 @@ pub loop-rule-preserved : goal.loop-rule-preserved
 loop-rule-preserved c =
     let s = c.args.layers.now in
     let i = c.loop-rule.rule-index in
-    subst (λ vs. Each (Breaking s) (take (i + 1) c.args.rules.now) vs) (sym c.in-ok-push.ensures.items)
-    (each_more (Breaking s) c.args.rules.now (vec_items c.loop-rule.regions) i _ c.in-ok-region.region c.loop-rule-test.true c.loop-rule.invariant c.in-ok-region.ensures)
+    subst (λ vs. Each (Breaking s) (take (i + 1) c.args.rules.now) vs) (sym c.in_ok-push.ensures.items)
+    (each_more (Breaking s) c.args.rules.now (vec_items c.loop-rule.regions) i _ c.in_ok-region.region c.loop-rule-test.true c.loop-rule.invariant c.in_ok-region.ensures)
 
 pub returns : goal.returns
 returns c = subst (λ rs. AllBreaking c.args.layers.now rs (vec_items c.loop-rule.regions)) (take_all c.loop-rule.rule-index c.args.rules.now c.loop-rule-test.false) c.loop-rule.invariant

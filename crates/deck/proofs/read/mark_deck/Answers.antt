@@ -8,15 +8,15 @@ use Rattle.deck.proofs.read.mark_deck.Goals as goal
 pub loop-rule-init : goal.loop-rule-init
 loop-rule-init c = (c.requires.long, tt)
 
-pub mark-layers-requires : goal.mark-layers-requires
-mark-layers-requires c = record { sound = All-get_or Sound c.args.rules.now c.loop-rule.rule-index _ c.loop-rule-test.true c.requires.sound; long = c.loop-rule.invariant.0 }
+pub mark_layers-requires : goal.mark_layers-requires
+mark_layers-requires c = record { sound = All-get_or Sound c.args.rules.now c.loop-rule.rule-index _ c.loop-rule-test.true c.requires.sound; long = c.loop-rule.invariant.0 }
 
 pub loop-rule-preserved : goal.loop-rule-preserved
 loop-rule-preserved c =
     let before = vec_items c.loop-rule.wanted in
-    let after = vec_items c.mark-layers.new.wanted in
-    let m = c.mark-layers.ensures in (
-      c.mark-layers.new.wanted.ok.0 ∙ m.long ∙ sym c.loop-rule.wanted.ok.0 ∙ c.loop-rule.invariant.0,
+    let after = vec_items c.mark_layers.new.wanted in
+    let m = c.mark_layers.ensures in (
+      c.mark_layers.new.wanted.ok.0 ∙ m.long ∙ sym c.loop-rule.wanted.ok.0 ∙ c.loop-rule.invariant.0,
       All-more (Marks after) c.args.rules.now c.loop-rule.rule-index _ c.loop-rule-test.true
           (All-weaker (Marks before) (Marks after) (λ r h i l k e. m.keeps l (h i l k e)) (take c.loop-rule.rule-index c.args.rules.now) c.loop-rule.invariant.1) m.marks,
     )
