@@ -1,17 +1,17 @@
 -- Why read_device does what its contract says.
-use Rattle.std.proofs.Common.{◌≡◌, ℕ, ◌<◌, [], length, get_or, Ok, Err, sym, refl, ap, ◌∙◌, arith, rules}
+use Rattle.std.proofs.Common.{◌≡◌, [], length, get_or, Ok, sym, refl, ap, ◌∙◌, arith, rules}
 use Rattle.circuit_text.specs.Circuits.{circuit_of, spelled}
-use Rattle.circuit_text.specs.Statements.{joined, device-at}
+use Rattle.circuit_text.specs.Statements.{device-at}
 use Rattle.circuit_text.proofs.Statements.{joined-not, joined-three, device-done, spelled_at, spelled-long, there-is}
 use Rattle.circuit_text.proofs.circuit.CircuitText.read_device.Goals as goal
 
-pub returns-in-default : goal.returns-in-default
-returns-in-default c =
+pub returns-in_default : goal.returns-in_default
+returns-in_default c =
     let few : length c.args.words.now ≡ 3 → ⊥ = search rules in
     (refl, joined-not c.args.line (circuit_of c.args.self.now) (spelled c.args.text.now c.args.words.now) (λ e. few (sym (spelled-long c.args.text.now c.args.words.now) ∙ e)))
 
-pub returns-in-default·2 : goal.returns-in-default·2
-returns-in-default·2 c =
+pub returns-in_default-2 : goal.returns-in_default-2
+returns-in_default-2 c =
     let few : length c.args.words.now ≡ 3 → ⊥ = search rules in
     (refl, joined-not c.args.line (circuit_of c.args.self.now) (spelled c.args.text.now c.args.words.now) (λ e. few (sym (spelled-long c.args.text.now c.args.words.now) ∙ e)))
 
@@ -22,7 +22,7 @@ returns c =
     let ts = spelled text ws in
     let c₀ = circuit_of c.args.self.now in
     let three : length ws ≡ 3 = search rules in
-    let p = there-is c.args.self.now.pins c.if-is-none.ensures in
+    let p = there-is c.args.self.now.pins c.if-is_none.ensures in
     let g : get_or ts 0 [] ≡ c.bytes.result.now = spelled_at text ws 0 _ (omega (arith, three)) ∙ sym c.bytes.ensures in
     let a : get_or ts 1 [] ≡ c.bytes-2.result.now = spelled_at text ws 1 _ (omega (arith, three)) ∙ sym c.bytes-2.ensures in
     let b : get_or ts 2 [] ≡ c.bytes-3.result.now = spelled_at text ws 2 _ (omega (arith, three)) ∙ sym c.bytes-3.ensures in
@@ -30,6 +30,6 @@ returns c =
     ∙ ap (λ v. Ok (device-at c₀ v (get_or ts 1 []) (get_or ts 2 []))) g
     ∙ ap (λ v. Ok (device-at c₀ c.bytes.result.now v (get_or ts 2 []))) a
     ∙ ap (λ v. Ok (device-at c₀ c.bytes.result.now c.bytes-2.result.now v)) b
-    ∙ ap Ok (device-done c₀ (circuit_of c.net.new.self) (circuit_of c.net-2.new.self) (circuit_of c.net-3.new.self) c.bytes.result.now c.bytes-2.result.now c.bytes-3.result.now c.in-ok-gate.gate c.in-ok-one.one c.in-ok-other.other
-    c.in-ok-gate.ensures.after c.in-ok-gate.ensures.number c.in-ok-one.ensures.after c.in-ok-one.ensures.number c.in-ok-other.ensures.after c.in-ok-other.ensures.number
-    _ c.in-ok-extend-from-slice.ensures.items)
+    ∙ ap Ok (device-done c₀ (circuit_of c.net.new.self) (circuit_of c.net-2.new.self) (circuit_of c.net-3.new.self) c.bytes.result.now c.bytes-2.result.now c.bytes-3.result.now c.in_ok-gate.gate c.in_ok-one.one c.in_ok-other.other
+    c.in_ok-gate.ensures.after c.in_ok-gate.ensures.number c.in_ok-one.ensures.after c.in_ok-one.ensures.number c.in_ok-other.ensures.after c.in_ok-other.ensures.number
+    _ c.in_ok-extend_from_slice.ensures.items)
