@@ -25,11 +25,10 @@ returns c =
     let p = there-is c.args.self.now.pins c.if-is_none.ensures in
     let g : get_or ts 0 [] ≡ c.bytes.result.now = spelled_at text ws 0 _ (omega (arith, three)) ∙ sym c.bytes.ensures in
     let a : get_or ts 1 [] ≡ c.bytes-2.result.now = spelled_at text ws 1 _ (omega (arith, three)) ∙ sym c.bytes-2.ensures in
-    let b : get_or ts 2 [] ≡ c.bytes-3.result.now = spelled_at text ws 2 _ (omega (arith, three)) ∙ sym c.bytes-3.ensures in
+    let b = spelled_at text ws 2 (record { start = 0; end = 0; line = 0 }) (omega (arith, three)) in
     joined-three c.args.line c₀ ts p.0 (spelled-long text ws ∙ three) p.1
     ∙ ap (λ v. Ok (device-at c₀ v (get_or ts 1 []) (get_or ts 2 []))) g
     ∙ ap (λ v. Ok (device-at c₀ c.bytes.result.now v (get_or ts 2 []))) a
-    ∙ ap (λ v. Ok (device-at c₀ c.bytes.result.now c.bytes-2.result.now v)) b
-    ∙ ap Ok (device-done c₀ (circuit_of c.net.new.self) (circuit_of c.net-2.new.self) (circuit_of c.net-3.new.self) c.bytes.result.now c.bytes-2.result.now c.bytes-3.result.now c.in_ok-gate.gate c.in_ok-one.one c.in_ok-other.other
-    c.in_ok-gate.ensures.after c.in_ok-gate.ensures.number c.in_ok-one.ensures.after c.in_ok-one.ensures.number c.in_ok-other.ensures.after c.in_ok-other.ensures.number
+    ∙ ap Ok (device-done c₀ (circuit_of c.net.new.self) (circuit_of c.net-2.new.self) (circuit_of c.net-3.new.self) c.bytes.result.now c.bytes-2.result.now (get_or ts 2 []) c.in_ok-gate.gate c.in_ok-one.one c.in_ok-other.other
+    c.in_ok-gate.ensures.after c.in_ok-gate.ensures.number c.in_ok-one.ensures.after c.in_ok-one.ensures.number (cc (b, c.in_ok-other.ensures.after)) (cc (b, c.in_ok-other.ensures.number))
     _ c.in_ok-extend_from_slice.ensures.items)
