@@ -1,7 +1,7 @@
 -- A text that says no pin has none. Assumes nothing.
 use Rattle.std.proofs.Common.{◌≡◌, ℕ, suc, cond, eqb, List, [], ◌∷◌, length, get_or, Some, None, Option, refl, ap, ◌∙◌, inl, inr}
 use Rattle.std.proofs.lemmas.Bool.{cases_Bool}
-use Rattle.std.specs.List.{AllByRecursion as All}
+use Rattle.std.specs.List.{AllByRecursion}
 use Rattle.words.specs.Steps.{by_some}
 use Rattle.text.specs.Sheets.{added, joined}
 use Rattle.text.specs.Plans.{Drawing, blank, placed, sheeted, waiting, drawn, moved_on, turned, begun, said, all_said, last, finished}
@@ -65,7 +65,7 @@ said-pins d (statement.Row m f c) n u = next-pins d (statement.Row m f c) n u
 said-pins d (statement.Column m f c) n u = next-pins d (statement.Column m f c) n u
 said-pins d (statement.Pin l x y) n u = absurd u
 
-all_pins : (ss : List Said) (d : Drawing) → All Quiet ss → (all_said d ss).pins ≡ d.pins
+all_pins : (ss : List Said) (d : Drawing) → AllByRecursion Quiet ss → (all_said d ss).pins ≡ d.pins
 unfolding all_said
 all_pins [] d q = refl
 all_pins (s ∷ ss) d q = all_pins ss (said d s.statement s.line) q.1 ∙ said-pins d s.statement s.line q.0
@@ -75,7 +75,7 @@ last-pins d n =
     let e = sheeted d (added d.sheet (3 ∷ 0 ∷ 0 ∷ n ∷ 0 ∷ 0 ∷ []) None) in
     elim (cases_Bool (eqb (suc n) (length d.sheet.lines))) [ inl t ↦ ap (λ b. (cond b d e).pins) t | inr t ↦ ap (λ b. (cond b d e).pins) t ]
 
-pub no_pins : (ss : List Said) → All Quiet ss → (finished (all_said blank ss)).pins ≡ []
+pub no_pins : (ss : List Said) → AllByRecursion Quiet ss → (finished (all_said blank ss)).pins ≡ []
 no_pins ss q =
     let d = moved_on (all_said blank ss) in
     let j = joined d.sheet d.outer None in

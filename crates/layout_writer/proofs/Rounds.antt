@@ -3,7 +3,7 @@ use Rattle.std.proofs.Common.{◌≡◌, ℕ, zero, suc, ◌+◌, ◌-◌, ◌*�
 use Rattle.std.proofs.ByRecursion.{All-push}
 use Rattle.std.proofs.lemmas.List.{append_assoc, append-nil, length_push, get_or_push, get_or_append_left}
 use Rattle.std.proofs.lemmas.Bool.{cases_eq, cases_Bool, le-ltb, both_ways}
-use Rattle.std.specs.List.{AllByRecursion as All}
+use Rattle.std.specs.List.{AllByRecursion}
 use Rattle.layout.specs.Layout.{Layout, nothing, box, both, moved, turned, mirrored, row, column, Drawing, drawn}
 use Rattle.layout.specs.Limits.{max_number}
 use Rattle.layout.specs.Nodes.{orderly, numbered}
@@ -111,7 +111,7 @@ module _ (xs : List ℕ) (sound : Sound xs) where
       line : ℕ
       values : List ℕ
       row : ℕ
-      quiet : All Quiet said
+      quiet : AllByRecursion Quiet said
       shows : put-down (all_shown empty said) ≡ grown b cs i ps
 
     abbrev state : (ps : List Layout) → Stand ps → State
@@ -146,7 +146,7 @@ module _ (xs : List ℕ) (sound : Sound xs) where
         }
 
     -- a statement on a line
-    grows-line : (ps : List Layout) (s : Stand ps) (ws : List (List ℕ)) (d : List Said) (t : Bool) (v : List ℕ) (q : Layout) → Says s.row (state ps s) ws (stands d c k t s.row v) → All Quiet d → put-down (all_shown empty d) ≡ grown b cs i (ps ++ q ∷ []) → Grows (g ++ line_of ws) ps s (drawing q)
+    grows-line : (ps : List Layout) (s : Stand ps) (ws : List (List ℕ)) (d : List Said) (t : Bool) (v : List ℕ) (q : Layout) → Says s.row (state ps s) ws (stands d c k t s.row v) → AllByRecursion Quiet d → put-down (all_shown empty d) ≡ grown b cs i (ps ++ q ∷ []) → Grows (g ++ line_of ws) ps s (drawing q)
     grows-line ps s ws d t v q says quiet shows =
         let z : Stand (ps ++ q ∷ []) = record { said = d; turning = t; line = s.row; values = v; row = suc s.row; quiet = quiet; shows = shows } in
         record { more = q ∷ []; after = z; turns = margin.past (line_of ws) (state ps s) (state (ps ++ q ∷ []) z) s.row (suc s.row) (line-turns says); draws = spread_one q }
@@ -302,7 +302,7 @@ module _ (xs : List ℕ) (sound : Sound xs) where
     inner : List Layout
     turns : Turns (cells_text xs n) start (stands said names count turning line values) 0 row
     shows : put-down (all_shown empty said) ≡ grown false cells inner []
-    quiet : All Quiet said
+    quiet : AllByRecursion Quiet said
     names-long : length names ≡ count
     cells-long : length cells ≡ count
     unused : (m : ℕ) → n ≤ m → m < 2 ^ 62 → place_of names (name m) ≡ None

@@ -12,7 +12,7 @@ loop-n-init c = (refl, omega arith)
 pub loop-n-preserved : goal.loop-n-preserved
 loop-n-preserved c =
     let xs = c.args.layout.now in
-    let by = c.uses-total.ensures.same ∙ ap (λ (u : List ℕ). uses (get_or u 0 0) (get_or u 1 0) (get_or u 2 0) (get_or u 3 0) c.args.m) c.numbers-of.ensures in
+    let by = c.uses-total.ensures.same ∙ ap (λ (u : List ℕ). uses (get_or u 0 0) (get_or u 1 0) (get_or u 2 0) (get_or u 3 0) c.args.m) c.numbers_of.ensures in
     (uses-more xs c.args.m c.loop-n.n c.loop-n.total c.uses-total.result c.loop-n.invariant.0 by, omega (arith, c.loop-n.invariant.1, c.uses-total.ensures.few))
 
 pub returns : goal.returns

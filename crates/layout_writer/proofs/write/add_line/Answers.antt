@@ -5,6 +5,6 @@ use Rattle.layout_writer.proofs.write.add_line.Goals as goal
 
 pub returns : goal.returns
 returns c =
-    c.in-ok-push-str-2.ensures.bytes
-    ∙ ap (λ t. t ++ c.args.line.now) c.in-ok-push-str.ensures.bytes
+    c.in_ok-push_str-2.ensures.bytes
+    ∙ ap (λ t. t ++ c.args.line.now) c.in_ok-push_str.ensures.bytes
     ∙ append_assoc (string_bytes c.args.text.now) c.args.margin.now c.args.line.now
