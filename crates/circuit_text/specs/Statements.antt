@@ -4,7 +4,7 @@ use Rattle.std.specs.Str.{bytes_eq}
 use Rattle.layout.specs.declared.refusal.Fault.{Fault}
 use Rattle.layout.specs.declared.refusal.Fault.TheVariants.{Refused, Memory}
 use Rattle.layout.specs.declared.refusal.Refusal.TheVariants.{Text}
-use Rattle.layout.specs.Refusals.{place_of as IsPlace-in}
+use Rattle.layout.specs.Refusals.{place_of as place_in}
 use Rattle.words.specs.Words.{words_of}
 use Rattle.words.specs.Chains.{place_of}
 use Rattle.words.specs.Steps.{by_some, and_then}
@@ -50,5 +50,5 @@ stated n c line = said_by n c (map (λ t. t.bytes) (words_of Plain line))
 -- an answer follows a model; nothing is said where memory ran out
 abbrev pub Follows : {U : Type 0} → Result Circuit ℕ → Circuit → Result U Fault → Type 0
 Follows m c (Ok u) = m ≡ Ok c
-Follows m c (Err (Refused e)) = (e ≡ Text (IsPlace-in e)) × (m ≡ Err (IsPlace-in e))
+Follows m c (Err (Refused e)) = (e ≡ Text (place_in e)) × (m ≡ Err (place_in e))
 Follows m c (Err Memory) = Unit {0}
