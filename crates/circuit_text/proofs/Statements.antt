@@ -12,7 +12,7 @@ use Rattle.words.specs.declared.word.Marks.TheVariants.{Plain}
 use Rattle.words.specs.Words.{token_at, rest_of_line, Cut}
 use Rattle.words.specs.declared.word.Word.{Word}
 use Rattle.circuit_text.specs.Circuits.{Circuit, blank, net_of, with_net, named_by, spelled}
-use Rattle.circuit_text.specs.Statements.{joined, device-at, new_names, pinned, said_by, stated, Follows}
+use Rattle.circuit_text.specs.Statements.{joined, device_at, new_names, pinned, said_by, stated, Follows}
 use Rattle.words.proofs.Listings.{Listing, list-stopped}
 use Rattle.circuit_text.specs.CircuitTexts.{LinesRead}
 use Rattle.circuit_text.specs.declared.circuit.Pins.{Pins}
@@ -28,20 +28,20 @@ pub joined-unpinned : (n : ℕ) (c : Circuit) (ws : List (List ℕ)) → c.pins 
 joined-unpinned n c [] h = refl
 joined-unpinned n c (g ∷ []) h = refl
 joined-unpinned n c (g ∷ (a ∷ [])) h = refl
-joined-unpinned n c (g ∷ (a ∷ (b ∷ []))) h = ap (λ o. by_some o (Err n) (λ p. Ok (device-at c g a b))) h
+joined-unpinned n c (g ∷ (a ∷ (b ∷ []))) h = ap (λ o. by_some o (Err n) (λ p. Ok (device_at c g a b))) h
 joined-unpinned n c (g ∷ (a ∷ (b ∷ (d ∷ ws)))) h = refl
 
-pub joined-three : (n : ℕ) (c : Circuit) (ws : List (List ℕ)) (p : Pins) → length ws ≡ 3 → c.pins ≡ Some p → joined n c ws ≡ Ok (device-at c (get_or ws 0 []) (get_or ws 1 []) (get_or ws 2 []))
+pub joined-three : (n : ℕ) (c : Circuit) (ws : List (List ℕ)) (p : Pins) → length ws ≡ 3 → c.pins ≡ Some p → joined n c ws ≡ Ok (device_at c (get_or ws 0 []) (get_or ws 1 []) (get_or ws 2 []))
 joined-three n c [] p l h = absurd (omega (arith, l))
 joined-three n c (g ∷ []) p l h = absurd (omega (arith, l))
 joined-three n c (g ∷ (a ∷ [])) p l h = absurd (omega (arith, l))
-joined-three n c (g ∷ (a ∷ (b ∷ []))) p l h = ap (λ o. by_some o (Err n) (λ p. Ok (device-at c g a b))) h
+joined-three n c (g ∷ (a ∷ (b ∷ []))) p l h = ap (λ o. by_some o (Err n) (λ p. Ok (device_at c g a b))) h
 joined-three n c (g ∷ (a ∷ (b ∷ (d ∷ ws)))) p l h = absurd (omega (arith, l))
 
 -- three nets named one after another, and a device at them
 pub device-done :
     (c₀ c₁ c₂ c₃ : Circuit) (g a b : List ℕ) (x y z : ℕ) → c₁ ≡ named_by c₀ (with_net c₀.names g) → x ≡ net_of c₀.names g → c₂ ≡ named_by c₁ (with_net c₁.names a) → y ≡ net_of c₁.names a →
-    c₃ ≡ named_by c₂ (with_net c₂.names b) → z ≡ net_of c₂.names b → (ds : List ℕ) → ds ≡ c₃.devices ++ x ∷ y ∷ z ∷ [] → device-at c₀ g a b ≡ record { names = c₃.names; pins = c₃.pins; devices = ds }
+    c₃ ≡ named_by c₂ (with_net c₂.names b) → z ≡ net_of c₂.names b → (ds : List ℕ) → ds ≡ c₃.devices ++ x ∷ y ∷ z ∷ [] → device_at c₀ g a b ≡ record { names = c₃.names; pins = c₃.pins; devices = ds }
 device-done c₀ c₁ c₂ c₃ g a b x y z e₁ f₁ e₂ f₂ e₃ f₃ ds q = rw (q, e₃, f₃, e₂, f₂, e₁, f₁)
 
 -- the spelling of a word at a place

@@ -24,8 +24,8 @@ pinned n c ws =
     (λ p. Err n)
 
 -- a device at three nets, each a new one where its name is new
-abbrev pub device-at : Circuit → (gate one other : List ℕ) → Circuit
-device-at c g a b =
+abbrev pub device_at : Circuit → (gate one other : List ℕ) → Circuit
+device_at c g a b =
     let ns = c.names in
     let ns₁ = with_net ns g in
     let ns₂ = with_net ns₁ a in
@@ -36,7 +36,7 @@ abbrev pub joined : ℕ → Circuit → List (List ℕ) → Result Circuit ℕ
 joined n c [] = Err n
 joined n c (g ∷ []) = Err n
 joined n c (g ∷ (a ∷ [])) = Err n
-joined n c (g ∷ (a ∷ (b ∷ []))) = by_some c.pins (Err n) (λ p. Ok (device-at c g a b))
+joined n c (g ∷ (a ∷ (b ∷ []))) = by_some c.pins (Err n) (λ p. Ok (device_at c g a b))
 joined n c (g ∷ (a ∷ (b ∷ (d ∷ ws)))) = Err n
 
 abbrev pub said_by : ℕ → Circuit → List (List ℕ) → Result Circuit ℕ

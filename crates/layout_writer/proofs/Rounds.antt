@@ -19,7 +19,7 @@ use Rattle.words.specs.Words.{words_from, words_of}
 use Rattle.words.specs.declared.word.Marks.TheVariants.{Braces}
 use Rattle.text.specs.LayoutTexts.{meant}
 use Rattle.text.specs.Readings.{State, start, read, finished, said_in}
-use Rattle.text.specs.Scenes.{Scene, empty, shown, begins, changed, all_shown, picture, together, put-down}
+use Rattle.text.specs.Scenes.{Scene, empty, shown, begins, changed, all_shown, picture, together, put_down}
 use Rattle.text.specs.declared.statement.Statement.{Statement}
 use Rattle.text.specs.declared.statement.Statement.TheVariants as statement
 use Rattle.text.specs.declared.statement.Said.{Said}
@@ -69,28 +69,28 @@ four = record { past = λ bs s z n m t. turns-blank _ s z n m (turns-blank _ s z
 
 -- one part more
 module _ (cs i ps : List Layout) where
-  box-grown : (b : Bool) (l x y a h : ℕ) → put-down (begins (grown b cs i ps) (statement.Box l x y a h)) ≡ grown b cs i (ps ++ box l x y a h ∷ [])
+  box-grown : (b : Bool) (l x y a h : ℕ) → put_down (begins (grown b cs i ps) (statement.Box l x y a h)) ≡ grown b cs i (ps ++ box l x y a h ∷ [])
   box-grown true l x y a h = refl
   box-grown false l x y a h = refl
 
-  put-grown : (b : Bool) (j x y : ℕ) → put-down (begins (grown b cs i ps) (statement.Put j x y)) ≡ grown b cs i (ps ++ moved x y (get_or cs j nothing) ∷ [])
+  put-grown : (b : Bool) (j x y : ℕ) → put_down (begins (grown b cs i ps) (statement.Put j x y)) ≡ grown b cs i (ps ++ moved x y (get_or cs j nothing) ∷ [])
   put-grown true j x y = refl
   put-grown false j x y = refl
 
-  changed-grown : (b : Bool) (j : ℕ) (f : Layout → Layout) → put-down (changed (begins (grown b cs i ps) (statement.Put j 0 0)) f) ≡ grown b cs i (ps ++ moved 0 0 (f (get_or cs j nothing)) ∷ [])
+  changed-grown : (b : Bool) (j : ℕ) (f : Layout → Layout) → put_down (changed (begins (grown b cs i ps) (statement.Put j 0 0)) f) ≡ grown b cs i (ps ++ moved 0 0 (f (get_or cs j nothing)) ∷ [])
   changed-grown true j f = refl
   changed-grown false j f = refl
 
-  row-grown : (b : Bool) (m f j : ℕ) → put-down (begins (grown b cs i ps) (statement.Row m f j)) ≡ grown b cs i (ps ++ row m f (get_or cs j nothing) ∷ [])
+  row-grown : (b : Bool) (m f j : ℕ) → put_down (begins (grown b cs i ps) (statement.Row m f j)) ≡ grown b cs i (ps ++ row m f (get_or cs j nothing) ∷ [])
   row-grown true m f j = refl
   row-grown false m f j = refl
 
-  column-grown : (b : Bool) (m f j : ℕ) → put-down (begins (grown b cs i ps) (statement.Column m f j)) ≡ grown b cs i (ps ++ column m f (get_or cs j nothing) ∷ [])
+  column-grown : (b : Bool) (m f j : ℕ) → put_down (begins (grown b cs i ps) (statement.Column m f j)) ≡ grown b cs i (ps ++ column m f (get_or cs j nothing) ∷ [])
   column-grown true m f j = refl
   column-grown false m f j = refl
 
 -- what is shown after one statement, and after a put and a turn
-after_one : (d : List Said) (r : ℕ) (t : Statement) (u : Scene) → put-down (all_shown empty d) ≡ u → ((v : Scene) → shown v t ≡ begins (put-down v) t) → all_shown empty (d ++ at r t ∷ []) ≡ begins u t
+after_one : (d : List Said) (r : ℕ) (t : Statement) (u : Scene) → put_down (all_shown empty d) ≡ u → ((v : Scene) → shown v t ≡ begins (put_down v) t) → all_shown empty (d ++ at r t ∷ []) ≡ begins u t
 after_one d r t u e step = shown_more d (at r t) empty ∙ step (all_shown empty d) ∙ ap (λ (v : Scene). begins v t) e
 
 after_turn : (d : List Said) (r : ℕ) (t : Statement) (f : Layout → Layout) (v : Scene) → all_shown empty d ≡ v → ((w : Scene) → shown w t ≡ changed w f) → all_shown empty (d ++ at r t ∷ []) ≡ changed v f
@@ -112,7 +112,7 @@ module _ (xs : List ℕ) (sound : Sound xs) where
       values : List ℕ
       row : ℕ
       quiet : AllByRecursion Quiet said
-      shows : put-down (all_shown empty said) ≡ grown b cs i ps
+      shows : put_down (all_shown empty said) ≡ grown b cs i ps
 
     abbrev state : (ps : List Layout) → Stand ps → State
     state ps s = stands s.said c k s.turning s.line s.values
@@ -146,7 +146,7 @@ module _ (xs : List ℕ) (sound : Sound xs) where
         }
 
     -- a statement on a line
-    grows-line : (ps : List Layout) (s : Stand ps) (ws : List (List ℕ)) (d : List Said) (t : Bool) (v : List ℕ) (q : Layout) → Says s.row (state ps s) ws (stands d c k t s.row v) → AllByRecursion Quiet d → put-down (all_shown empty d) ≡ grown b cs i (ps ++ q ∷ []) → Grows (g ++ line_of ws) ps s (drawing q)
+    grows-line : (ps : List Layout) (s : Stand ps) (ws : List (List ℕ)) (d : List Said) (t : Bool) (v : List ℕ) (q : Layout) → Says s.row (state ps s) ws (stands d c k t s.row v) → AllByRecursion Quiet d → put_down (all_shown empty d) ≡ grown b cs i (ps ++ q ∷ []) → Grows (g ++ line_of ws) ps s (drawing q)
     grows-line ps s ws d t v q says quiet shows =
         let z : Stand (ps ++ q ∷ []) = record { said = d; turning = t; line = s.row; values = v; row = suc s.row; quiet = quiet; shows = shows } in
         record { more = q ∷ []; after = z; turns = margin.past (line_of ws) (state ps s) (state (ps ++ q ∷ []) z) s.row (suc s.row) (line-turns says); draws = spread_one q }
@@ -157,7 +157,7 @@ module _ (xs : List ℕ) (sound : Sound xs) where
         grows-line ps s (put_words m w1 w2) (s.said ++ at s.row st ∷ []) true (j ∷ 0 ∷ x ∷ y ∷ []) (moved x y (get_or cs j nothing))
         (put-says s.row s.said c k s.turning s.line s.values m j w1 w2 x y h p q)
         (All-push Quiet s.said (at s.row st) s.quiet tt)
-        (ap put-down (after_one s.said s.row st (grown b cs i ps) s.shows (λ v. refl)) ∙ put-grown cs i ps b j x y)
+        (ap put_down (after_one s.said s.row st (grown b cs i ps) s.shows (λ v. refl)) ∙ put-grown cs i ps b j x y)
 
     module _ (bound : ℕ) (low : bound ≤ sixes xs) (known : (m : ℕ) → m < bound → has_cell_lem xs m ≡ true → Known xs c k cs m) where
       module _ (n : ℕ) (here : n < sixes xs) (under : n ≤ bound) (part : ℕ → List ℕ) (parts : (m : ℕ) → m < n → (ps : List Layout) (s : Stand ps) → Grows (part m) ps s (drawing (piece xs m))) where
@@ -193,7 +193,7 @@ module _ (xs : List ℕ) (sound : Sound xs) where
             grows-line ps s (box_words A B C E F) (s.said ++ at s.row st ∷ []) false (A ∷ B ∷ C ∷ E ∷ F ∷ []) (box A B C E F)
             (box-says s.row s.said c k s.turning s.line s.values (decimal A) (decimal B) (decimal C) (decimal E) (decimal F) A B C E F (a_number A (small (6 * n + 1))) (a_number B (small (6 * n + 2))) (a_number C (small (6 * n + 3))) (a_number E (small (6 * n + 4))) (a_number F (small (6 * n + 5))))
             (All-push Quiet s.said (at s.row st) s.quiet tt)
-            (ap put-down (after_one s.said s.row st (grown b cs i ps) s.shows (λ v. refl)) ∙ box-grown cs i ps b A B C E F)
+            (ap put_down (after_one s.said s.row st (grown b cs i ps) s.shows (λ v. refl)) ∙ box-grown cs i ps b A B C E F)
 
         tells-2 : Tells 2
         unfolding node_of
@@ -221,7 +221,7 @@ module _ (xs : List ℕ) (sound : Sound xs) where
             (grows-line ps s ws (d ++ at s.row (statement.Turned A) ∷ []) true (A ∷ []) (moved 0 0 (turned A p))
             (also (put-says s.row s.said c k s.turning s.line s.values B j (codes "0") (codes "0") 0 0 kn.named zero_number zero_number) (turned-says s.row d c k s.row (j ∷ 0 ∷ 0 ∷ 0 ∷ []) (decimal A) A (a_number A (small (6 * n + 1)))))
             (All-push Quiet d (at s.row (statement.Turned A)) (All-push Quiet s.said (at s.row (statement.Put j 0 0)) s.quiet tt) tt)
-            (ap put-down (after_turn d s.row (statement.Turned A) (turned A) (begins (grown b cs i ps) (statement.Put j 0 0)) (after_one s.said s.row (statement.Put j 0 0) (grown b cs i ps) s.shows (λ v. refl)) (λ v. refl)) ∙ changed-grown cs i ps b j (turned A)))
+            (ap put_down (after_turn d s.row (statement.Turned A) (turned A) (begins (grown b cs i ps) (statement.Put j 0 0)) (after_one s.said s.row (statement.Put j 0 0) (grown b cs i ps) s.shows (λ v. refl)) (λ v. refl)) ∙ changed-grown cs i ps b j (turned A)))
 
         tells-5 : Tells 5
         unfolding node_of
@@ -235,7 +235,7 @@ module _ (xs : List ℕ) (sound : Sound xs) where
             (grows-line ps s ws (d ++ at s.row (statement.Mirrored A) ∷ []) true (A ∷ []) (moved 0 0 (mirrored A p))
             (also (put-says s.row s.said c k s.turning s.line s.values B j (codes "0") (codes "0") 0 0 kn.named zero_number zero_number) (mirrored-says s.row d c k s.row (j ∷ 0 ∷ 0 ∷ 0 ∷ []) (decimal A) A (a_number A (small (6 * n + 1)))))
             (All-push Quiet d (at s.row (statement.Mirrored A)) (All-push Quiet s.said (at s.row (statement.Put j 0 0)) s.quiet tt) tt)
-            (ap put-down (after_turn d s.row (statement.Mirrored A) (mirrored A) (begins (grown b cs i ps) (statement.Put j 0 0)) (after_one s.said s.row (statement.Put j 0 0) (grown b cs i ps) s.shows (λ v. refl)) (λ v. refl)) ∙ changed-grown cs i ps b j (mirrored A)))
+            (ap put_down (after_turn d s.row (statement.Mirrored A) (mirrored A) (begins (grown b cs i ps) (statement.Put j 0 0)) (after_one s.said s.row (statement.Put j 0 0) (grown b cs i ps) s.shows (λ v. refl)) (λ v. refl)) ∙ changed-grown cs i ps b j (mirrored A)))
 
         tells-6 : Tells 6
         unfolding node_of
@@ -249,7 +249,7 @@ module _ (xs : List ℕ) (sound : Sound xs) where
             (grows-line ps s ws (s.said ++ at s.row st ∷ []) false (A ∷ B ∷ j ∷ []) (row A B p)
             (row-says s.row s.said c k s.turning s.line s.values (decimal A) (decimal B) A B C j (a_number A (small (6 * n + 1))) (a_number B (small (6 * n + 2))) kn.named)
             (All-push Quiet s.said (at s.row st) s.quiet tt)
-            (ap put-down (after_one s.said s.row st (grown b cs i ps) s.shows (λ v. refl)) ∙ row-grown cs i ps b A B j))
+            (ap put_down (after_one s.said s.row st (grown b cs i ps) s.shows (λ v. refl)) ∙ row-grown cs i ps b A B j))
 
         tells-7 : Tells 7
         unfolding node_of
@@ -263,7 +263,7 @@ module _ (xs : List ℕ) (sound : Sound xs) where
             (grows-line ps s ws (s.said ++ at s.row st ∷ []) false (A ∷ B ∷ j ∷ []) (column A B p)
             (column-says s.row s.said c k s.turning s.line s.values (decimal A) (decimal B) A B C j (a_number A (small (6 * n + 1))) (a_number B (small (6 * n + 2))) kn.named)
             (All-push Quiet s.said (at s.row st) s.quiet tt)
-            (ap put-down (after_one s.said s.row st (grown b cs i ps) s.shows (λ v. refl)) ∙ column-grown cs i ps b A B j))
+            (ap put_down (after_one s.said s.row st (grown b cs i ps) s.shows (λ v. refl)) ∙ column-grown cs i ps b A B j))
 
         tells : (ps : List Layout) (s : Stand ps) → Grows (node_text g part (get_or xs (6 * n) 0) A B C E F) ps s (drawing (piece xs n))
         unfolding orderly numbered
@@ -301,7 +301,7 @@ module _ (xs : List ℕ) (sound : Sound xs) where
     cells : List Layout
     inner : List Layout
     turns : Turns (cells_text xs n) start (stands said names count turning line values) 0 row
-    shows : put-down (all_shown empty said) ≡ grown false cells inner []
+    shows : put_down (all_shown empty said) ≡ grown false cells inner []
     quiet : AllByRecursion Quiet said
     names-long : length names ≡ count
     cells-long : length cells ≡ count
@@ -382,7 +382,7 @@ module _ (xs : List ℕ) (sound : Sound xs) where
       values = 0 ∷ 0 ∷ [];
       row = suc c.row;
       quiet = All-push Quiet c.said (at c.row statement.Cell) c.quiet tt;
-      shows = ap put-down (after_one c.said c.row statement.Cell (grown false c.cells c.inner []) c.shows (λ v. refl));
+      shows = ap put_down (after_one c.said c.row statement.Cell (grown false c.cells c.inner []) c.shows (λ v. refl));
     }
 
     body : Grows (codes "    ") four true ns c.count c.cells c.inner (statements xs (codes "    ") (suc n) n) [] inside (drawing (piece xs n))
@@ -418,7 +418,7 @@ module _ (xs : List ℕ) (sound : Sound xs) where
           cells = c.cells ++ p ∷ [];
           inner = w.more;
           turns = subst (λ (b : Bool). Turns (cells_text xs n ++ cond b (cell_text xs n) []) start s3 0 (suc t.row)) (sym owns) turns;
-          shows = ap put-down (after_one t.said t.row statement.Close (grown true c.cells c.inner w.more) t.shows (λ v. refl));
+          shows = ap put_down (after_one t.said t.row statement.Close (grown true c.cells c.inner w.more) t.shows (λ v. refl));
           quiet = All-push Quiet t.said (at t.row statement.Close) t.quiet tt;
           names-long = omega (arith, long, c.names-long);
           cells-long = omega (arith, length_push c.cells p, c.cells-long);
