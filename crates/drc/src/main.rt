@@ -1,7 +1,6 @@
 // drc LAYOUT RULES: says where a layout breaks each rule first, or that it is clean.
 #![tactic(auto)]
 
-use anyhow::anyhow;
 use deck::fault::DeckFault;
 use deck::judge_deck;
 use layout::refusal::{Fault, Refusal};
@@ -12,6 +11,7 @@ use rule_text::read_rules;
 use rule_text::rule::RuleText;
 use std::alloc::{AllocError, Global};
 use std::io::Write;
+use std::process::ExitCode;
 use std::{env, fs};
 use text::layout_text::{LayoutText, read_layout};
 
@@ -96,12 +96,12 @@ fn judge_texts(heap: Global, layout: &[u8], rules: &[u8]) -> Result<Vec<u8>, Sto
 }
 
 // A file's bytes, or a message.
-fn read_file(rt: &HostRuntime, path: &str) -> anyhow::Result<Vec<u8>> {
+fn read_file(rt: &HostRuntime, path: &str) -> anyhow::Result<Option<Vec<u8>>> {
     match fs::read(rt, path) {
-        Ok(bytes) => Ok(bytes),
+        Ok(bytes) => Ok(Some(bytes)),
         Err(_) => {
             eprintln!(rt; "{path}: this file can't be read")?;
-            Err(anyhow!("no file"))
+            Ok(None)
         }
     }
 }
@@ -111,7 +111,7 @@ fn refuse(
     path: &str,
     line: Option<usize>,
     refusal: Refusal,
-) -> anyhow::Result<()> {
+) -> anyhow::Result<ExitCode> {
     let number = refusal.number();
     let place = refusal.place();
     let what = sentence(refusal);
@@ -122,32 +122,36 @@ fn refuse(
         }
         None => eprintln!(rt; "{path}: {what} (refusal {number} at {place})")?,
     }
-    Err(anyhow!("refused"))
+    Ok(ExitCode::FAILURE)
 }
 
-fn run(rt: &HostRuntime, layout: &str, rules: &str) -> anyhow::Result<()> {
-    let layout_bytes = read_file(rt, layout)?;
-    let rule_bytes = read_file(rt, rules)?;
+fn run(rt: &HostRuntime, layout: &str, rules: &str) -> anyhow::Result<ExitCode> {
+    let Some(layout_bytes) = read_file(rt, layout)? else {
+        return Ok(ExitCode::FAILURE);
+    };
+    let Some(rule_bytes) = read_file(rt, rules)? else {
+        return Ok(ExitCode::FAILURE);
+    };
     match judge_texts(rt.alloc(), layout_bytes.as_slice(), rule_bytes.as_slice()) {
         Ok(out) => {
             if out.is_empty() {
                 println!(rt; "clean")?;
-                return Ok(());
+                return Ok(ExitCode::SUCCESS);
             }
             rt.stdout().write_all(out.as_slice())?;
-            Err(anyhow!("broken"))
+            Ok(ExitCode::FAILURE)
         }
         Err(Stop::Refused(File::Layout, line, refusal)) => refuse(rt, layout, line, refusal),
         Err(Stop::Refused(File::Rules, line, refusal)) => refuse(rt, rules, line, refusal),
         Err(Stop::Memory) => {
             eprintln!(rt; "drc: there is too little memory")?;
-            Err(anyhow!("memory"))
+            Ok(ExitCode::FAILURE)
         }
     }
 }
 
 // What follows the program's name.
-fn main(rt: HostRuntime) -> anyhow::Result<()> {
+fn main(rt: HostRuntime) -> anyhow::Result<ExitCode> {
     let mut words = env::args(&rt)?;
     let _program = words.next();
     let layout = words.next();
@@ -157,7 +161,7 @@ fn main(rt: HostRuntime) -> anyhow::Result<()> {
         (Some(layout), Some(rules), None) => run(&rt, layout.as_str(), rules.as_str()),
         _ => {
             eprintln!(rt; "usage: drc LAYOUT RULES")?;
-            Err(anyhow!("usage"))
+            Ok(ExitCode::FAILURE)
         }
     }
 }

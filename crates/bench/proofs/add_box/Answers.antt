@@ -3,5 +3,5 @@ use Rattle.std.proofs.ByRecursion.{All-push}
 use Rattle.layout.specs.Rects.{Within}
 use Rattle.bench.proofs.add_box.Goals as goal
 
-pub returns-in-ok-push : goal.returns-in-ok-push
-returns-in-ok-push c = rw c.in-ok-push.ensures.items (All-push (Within (2 ^ 40)) (vec_items c.args.boxes.now) c.in-Some.rect c.requires c.in-Some.ensures)
+pub returns-in_ok-push-in-Some : goal.returns-in_ok-push-in-Some
+returns-in_ok-push-in-Some c = rw c.in_ok-push-in-Some.ensures.items (All-push (Within (2 ^ 40)) (vec_items c.args.boxes.now) c.in-Some.rect c.requires c.in-Some.ensures)

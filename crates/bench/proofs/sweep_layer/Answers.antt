@@ -3,5 +3,5 @@ use Rattle.std.proofs.ByRecursion.{All-weaker}
 use Rattle.layout.specs.Rects.{Within}
 use Rattle.bench.proofs.sweep_layer.Goals as goal
 
-pub from-boxes-requires : goal.from-boxes-requires
-from-boxes-requires c = All-weaker (Within (2 ^ 40)) (Within (2 ^ 63)) (λ q h. (omega (arith, h.0), omega (arith, h.1))) c.args.boxes.now c.requires
+pub from_boxes-requires : goal.from_boxes-requires
+from_boxes-requires c = All-weaker (Within (2 ^ 40)) (Within (2 ^ 63)) (λ q h. (omega (arith, h.0), omega (arith, h.1))) c.args.boxes.now c.requires
