@@ -81,7 +81,7 @@ fn lines_and_pins(rt: HostRuntime) -> Result<(), Fail> {
         b"pin \xff 1 2 3\ncell a { box 1 0 0 1 1\nbox 2 0 0 1 1 }\nput a\nat 1 1 pin b 4 5 6 row 2 2 a";
     let read = read_layout(rt.alloc(), text)?;
     let lines = [Some(1), Some(2), Some(1), Some(3), Some(4), None];
-    assert!(rt; read.lines.as_slice() == &lines);
+    assert!(rt; read.lines.as_slice() == lines.as_slice());
     let pin = Pin {
         layer: 1,
         x: 2,
