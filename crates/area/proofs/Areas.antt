@@ -1,8 +1,8 @@
 -- The sums of lines and bands are the numbers of their columns and squares. Assumes nothing.
-use Rattle.std.proofs.Common.{◌≡◌, ℕ, zero, suc, ◌+◌, ◌-◌, ◌*◌, ◌^◌, ◌<◌, ◌≤◌, Bool, true, false, cond, not, leb, ◌⊎◌, List, [], ◌∷◌, length, get_or, take, drop, Some, None, Option, sym, refl, ap, ◌∙◌, subst, inl, inr, zero-mul, arith}
-use Rattle.std.proofs.lemmas.Bool.{cases_lt, cases_Bool, le-leb, lt-leb, both_ways}
+use Rattle.std.proofs.Common.{◌≡◌, ℕ, suc, ◌+◌, ◌-◌, ◌*◌, ◌^◌, ◌<◌, ◌≤◌, true, cond, not, leb, ◌⊎◌, List, [], ◌∷◌, length, get_or, take, drop, Some, None, Option, sym, refl, ap, ◌∙◌, subst, inl, inr, zero-mul, arith}
+use Rattle.std.proofs.lemmas.Bool.{cases_lt, le-leb, lt-leb, both_ways}
 use Rattle.std.proofs.lemmas.List.{take_rest}
-use Rattle.scanline.specs.Lines.{inside, differ, rises}
+use Rattle.scanline.specs.Lines.{inside, rises}
 use Rattle.scanline.specs.Bands.{edges, line_at, covers, Canonical}
 use Rattle.scanline.specs.declared.band.Band.{Band}
 use Rattle.scanline.proofs.Merge.{From, rises-from, inside-before}

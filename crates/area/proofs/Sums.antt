@@ -1,5 +1,5 @@
 -- Sums over the first places, and over those from an edge on. Assumes nothing.
-use Rattle.std.proofs.Common.{◌≡◌, ℕ, zero, suc, ◌+◌, ◌-◌, ◌*◌, ◌<◌, ◌≤◌, Bool, true, cond, leb, sym, refl, ap, ◌∙◌, subst, inl, inr, mul-zero, mul-suc, mul-add, arith}
+use Rattle.std.proofs.Common.{◌≡◌, ℕ, zero, suc, ◌+◌, ◌-◌, ◌*◌, ◌<◌, ◌≤◌, Bool, true, cond, leb, sym, refl, ap, ◌∙◌, inl, inr, mul-zero, mul-suc, mul-add, arith}
 use Rattle.std.proofs.lemmas.Bool.{cases_lt, cases_Bool, le-leb, lt-leb}
 use Rattle.scanline.specs.Lines.{differ}
 use Rattle.area.specs.Areas.{sum_of, columns}

@@ -1,11 +1,11 @@
 -- Square blocks within a set of squares, and free of it. Assumes nothing.
-use Rattle.std.proofs.Common.{◌≡◌, ℕ, suc, ◌+◌, ◌-◌, ◌*◌, ◌^◌, ◌<◌, ◌≤◌, Bool, true, false, not, ◌&&◌, leb, ◌⊎◌, Decides, sym, refl, ap, ◌∙◌, subst, inl, inr, arith}
-use Rattle.std.proofs.lemmas.Bool.{cases_Bool, cases_lt, both_ways, not-true, not_from_false, not-false, not_from_true, le-leb, lt-leb, and_from, and_parts, leb-true, and_left, and_right}
+use Rattle.std.proofs.Common.{◌≡◌, ℕ, suc, ◌+◌, ◌-◌, ◌*◌, ◌^◌, ◌<◌, ◌≤◌, true, false, not, sym, ◌∙◌, inl, inr, arith}
+use Rattle.std.proofs.lemmas.Bool.{cases_Bool, both_ways, not-true, not_from_false, le-leb, and_parts, leb-true}
 use Rattle.region.specs.Firsts.{Squares}
-use Rattle.blocks.specs.Blocks.{near, block, in_a_block, drawn_in, free_block}
-use Rattle.blocks.specs.Settled.{Settled, Behind, Dilated, Exactly, Corners}
+use Rattle.blocks.specs.Blocks.{block, in_a_block, drawn_in, free_block}
+use Rattle.blocks.specs.Settled.{Settled, Dilated, Exactly, Corners}
 use Rattle.blocks.proofs.Counts.{tell_same, block_all, all_block, around, in_block}
-use Rattle.blocks.proofs.Dilations.{settled_dilated, settled_not, settled_back, settled_more}
+use Rattle.blocks.proofs.Dilations.{settled_dilated, settled_not, settled_back}
 
 -- a square of `out` reaches p + n, q + n exactly if the block at p, q is not all in s
 pub corner : (m n : ℕ) (s out w ends r : Squares) → Settled m s → ((x y : ℕ) → out x y ≡ not (s x y)) → Dilated n out w → ((x y : ℕ) → ends x y ≡ not (w x y)) → ((x y : ℕ) → r x y ≡ ends (x + n) (y + n)) → Corners m n s r

@@ -1,13 +1,12 @@
 -- Sets of squares dilated, and moved back. Assumes nothing.
-use Rattle.std.proofs.Common.{◌≡◌, ℕ, suc, ◌+◌, ◌-◌, ◌*◌, ◌^◌, ◌<◌, ◌≤◌, Bool, true, false, not, ◌⊎◌, List, Decides, sym, refl, ap, ◌∙◌, subst, inl, inr, arith}
-use Rattle.std.proofs.lemmas.Bool.{cases_Bool, both_ways, not-true, not_from_false, not-false, not_from_true}
+use Rattle.std.proofs.Common.{◌≡◌, ℕ, ◌+◌, ◌*◌, ◌^◌, ◌<◌, ◌≤◌, not, List, Decides, sym, ap, ◌∙◌, inr, arith}
 use Rattle.scanline.specs.declared.band.Band.{Band}
 use Rattle.scanline.specs.Lines.{Near, Room}
 use Rattle.scanline.specs.Bands.{covers}
 use Rattle.region.specs.Firsts.{Squares}
 use Rattle.region.specs.Shifts.{RowRoom, WidenedRight, WidenedDown}
-use Rattle.blocks.specs.Blocks.{near, block, in_a_block, drawn_in, free_block}
-use Rattle.blocks.specs.Settled.{Settled, Behind, Dilated, Exactly}
+use Rattle.blocks.specs.Blocks.{near}
+use Rattle.blocks.specs.Settled.{Settled, Dilated, Exactly}
 use Rattle.blocks.proofs.Counts.{tell_same, near-some, some_near}
 
 -- to the right, and then down

@@ -1,5 +1,5 @@
 -- The rules of a deck as they are held, the layers that they name, and the regions that they come to. Assumes nothing: these are definitions.
-use Rattle.std.specs.Prelude.{◌≡◌, ℕ, ◌<◌, Bool, true, List, map, Ok, Err, vec_items, Result, Vec, slice_index_or}
+use Rattle.std.specs.Prelude.{◌≡◌, ℕ, ◌<◌, Bool, true, List, Ok, Err, vec_items, Result, Vec, slice_index_or}
 use Rattle.std.specs.declared.alloc.Global.{Global}
 use Rattle.std.specs.List.{AllByRecursion}
 use Rattle.region.specs.declared.regions.Region.{Region}
@@ -11,7 +11,6 @@ use Rattle.rules.specs.declared.layers.Layers.{Layers}
 use Rattle.rule_text.specs.Operators.{rule_number}
 use Rattle.rule_text.specs.Rules as text
 use Rattle.rule_text.specs.Rules.{rule_of}
-use Rattle.rule_text.specs.declared.rule.RuleText.{RuleText}
 use Rattle.deck.specs.Decks.{Each, FirstTurned}
 use Rattle.deck.specs.declared.fault.DeckFault.{DeckFault}
 use Rattle.deck.specs.declared.fault.DeckFault.TheVariants as fault

@@ -1,8 +1,8 @@
 -- Borders: one for the first square of each box where channels and wire meet is enough.
-use Rattle.std.proofs.Common.{◌≡◌, ℕ, suc, ◌+◌, ◌-◌, ◌<◌, ◌≤◌, Bool, true, false, ◌&&◌, eqb, ◌⊎◌, List, [], ◌∷◌, ◌++◌, length, get_or, sym, refl, ap, ◌∙◌, subst, inl, inr, arith, below_more}
+use Rattle.std.proofs.Common.{◌≡◌, ℕ, suc, ◌+◌, ◌-◌, ◌<◌, ◌≤◌, true, eqb, ◌⊎◌, List, [], ◌∷◌, ◌++◌, length, get_or, sym, refl, ap, ◌∙◌, subst, inl, inr, arith, below_more}
 use Rattle.std.specs.List.{ContainsAt as In, AllByRecursion}
 use Rattle.std.proofs.ByRecursion.{All-get_or, All-from_get_or, has_get_or, has_append_left, has_push, has_push_cases}
-use Rattle.std.proofs.lemmas.Bool.{cases_lt, both_ways, and_parts, and_from, and_left, and_right, eq-eqb}
+use Rattle.std.proofs.lemmas.Bool.{cases_lt, both_ways, and_parts, and_from, and_left, eq-eqb}
 use Rattle.layout.specs.Layout.{Drawing}
 use Rattle.scanline.specs.declared.band.Band.{Band}
 use Rattle.scanline.specs.Bands.{covers}

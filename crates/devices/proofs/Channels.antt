@@ -1,12 +1,12 @@
 -- Channels as wire of a technology of their own: what holds of ways holds under gates.
-use Rattle.std.proofs.Common.{◌≡◌, ℕ, suc, Bool, true, false, not, ◌&&◌, eqb, List, [], sym, refl, ◌∙◌, subst, inl, inr, arith}
+use Rattle.std.proofs.Common.{◌≡◌, ℕ, suc, Bool, true, false, not, ◌&&◌, eqb, List, [], sym, refl, ◌∙◌, inl, inr, arith}
 use Rattle.std.proofs.lemmas.Bool.{ne_eqb, and_parts, eqb-true, false≢true}
 use Rattle.layout.specs.Layout.{Drawing}
 use Rattle.scanline.specs.declared.band.Band.{Band}
 use Rattle.tiles.specs.declared.tile.Tile.{Tile}
 use Rattle.tiles.specs.Tiles.{held}
-use Rattle.nets.specs.Nets.{Technology, wire, Spot, on, Beside, Way, stays, along, through}
-use Rattle.nets.specs.Wires.{Shows, Tiled, Has, Named}
+use Rattle.nets.specs.Nets.{Technology, wire, Spot, on, Way, stays, along, through}
+use Rattle.nets.specs.Wires.{Shows, Tiled}
 use Rattle.nets.proofs.Ways.{ways_on, ways_back, way-starts, way-ends}
 use Rattle.nets.proofs.Joins.{connecting_none, connected}
 use Rattle.devices.specs.Channels.{channel, Under, stays as rests, along as goes}

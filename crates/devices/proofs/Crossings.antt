@@ -1,5 +1,5 @@
 -- A crossing laid from boxes, and what its borders tell.
-use Rattle.std.proofs.Common.{◌≡◌, ℕ, ◌^◌, ◌<◌, ◌≤◌, false, ◌⊎◌, List, length, get_or, vec_items, sym, refl, subst}
+use Rattle.std.proofs.Common.{◌≡◌, ◌^◌, ◌<◌, List, length, vec_items, subst}
 use Rattle.std.specs.List.{AllByRecursion}
 use Rattle.std.proofs.lemmas.Bool.{and_left}
 use Rattle.layout.specs.Layout.{Drawing}

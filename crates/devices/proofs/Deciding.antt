@@ -1,10 +1,10 @@
 -- Of every layout all devices are read, or an odd channel is found: spot after spot below its bound.
-use Rattle.std.proofs.Common.{◌≡◌, ℕ, zero, suc, ◌+◌, ◌<◌, Bool, true, false, cond, not, ◌&&◌, eqb, ◌⊎◌, List, [], ◌∷◌, ◌++◌, length, get_or, sym, refl, ap, ◌∙◌, subst, inl, inr, arith}
+use Rattle.std.proofs.Common.{◌≡◌, ℕ, zero, suc, ◌<◌, Bool, true, false, cond, ◌&&◌, eqb, ◌⊎◌, List, [], ◌∷◌, ◌++◌, length, get_or, sym, refl, ap, ◌∙◌, subst, inl, inr, arith}
 use Rattle.std.specs.List.{ContainsAt as In, AllByRecursion}
 use Rattle.std.proofs.lemmas.List.{append-nil, append_assoc}
 use Rattle.std.proofs.ByRecursion.{All-append, all-has, All-get_or, has_append_left, has_append_right, has_get_or}
 use Rattle.std.proofs.lemmas.Bool.{cases_Bool, cases_eq, and_parts, and_from, eq-eqb, ne_eqb, eqb-true, not-true, both_ways}
-use Rattle.layout.specs.Layout.{Layout, Drawing, drawn}
+use Rattle.layout.specs.Layout.{Drawing, drawn}
 use Rattle.nets.specs.Nets.{Technology, wire, Spot, on, Beside, right, left, below, above, Way, stays, along, Netted}
 use Rattle.nets.proofs.Ways.{way-starts, way-ends}
 use Rattle.nets.proofs.Bounds.{BelowAll, drawn_bound}
@@ -17,16 +17,15 @@ use Rattle.devices.specs.declared.terminal.Terminals.{Terminals}
 use Rattle.devices.specs.declared.terminal.Terminals.TheVariants.{Isolated, One, Two, Many}
 use Rattle.devices.specs.Channels.{channel, spot_of, Under, stays as rests, along as goes, Earlier}
 use Rattle.devices.specs.Ends.{Side}
-use Rattle.devices.specs.Pieces.{gated}
 use Rattle.devices.specs.Borders.{channel_x, channel_y, wire_x, wire_y}
 use Rattle.devices.specs.Terminals.{Sums, with_one_lem}
 use Rattle.devices.specs.Readings.{terminal_spot, Judged}
-use Rattle.devices.specs.Laws.{Device, over, Read, AllRead, Three, Odd, AllOrOdd}
+use Rattle.devices.specs.Laws.{Device, over, Read, AllRead, Odd, AllOrOdd}
 use Rattle.devices.proofs.Channels.{plain, on-plain, under-way, way-under, under-ends, crossed-layer}
 use Rattle.devices.proofs.Orders.{earlier-none}
 use Rattle.devices.proofs.Terminals.{terminal_of, sums-other, sums-more}
 use Rattle.devices.proofs.Judgements.{border-spot, Lists, judged}
-use Rattle.devices.proofs.Borders.{Toward, toward, beside_at, channel-gated, wire-on}
+use Rattle.devices.proofs.Borders.{toward, beside_at}
 
 -- what the borders of a channel come to
 

@@ -1,5 +1,5 @@
 -- Which refusal comes first, and what the entry then says.
-use Rattle.std.proofs.Common.{◌≡◌, ℕ, suc, ◌+◌, ◌*◌, ◌/◌, ◌<◌, ◌≤◌, true, false, List, length, Err, sym, refl, ap, ◌∙◌, subst, inl, inr, arith}
+use Rattle.std.proofs.Common.{◌≡◌, ℕ, suc, ◌+◌, ◌*◌, ◌/◌, ◌<◌, ◌≤◌, true, false, List, length, Err, sym, refl, subst, inl, inr, arith}
 use Rattle.std.proofs.lemmas.Bool.{ne_eqb, cases_order}
 use Rattle.layout.specs.Layout.{Drawing}
 use Rattle.layout.specs.Numbers.{layout_in, layout_refusal}
@@ -9,14 +9,14 @@ use Rattle.layout.specs.declared.refusal.Refusal.{Refusal}
 use Rattle.layout.specs.declared.refusal.Refusal.TheVariants.{Nodes, Number, Node, Boxes, Regions, Region, Technology as OfTechnology, Spots, Room, Circuit, Text}
 use Rattle.layout.specs.declared.refusal.Fault.{Fault}
 use Rattle.layout.specs.declared.refusal.Fault.TheVariants.{Refused as Turned, Memory as Empty}
-use Rattle.nets.specs.Nets.{Technology, Spot, on}
+use Rattle.nets.specs.Nets.{Technology}
 use Rattle.nets.specs.Technologies.{technology_in, technology_ok}
 use Rattle.devices.specs.declared.reading.Device.{Device}
-use Rattle.devices.specs.declared.entry.Found.TheVariants.{Devices, Odd, Refused, Memory}
-use Rattle.devices.specs.Channels.{channel, spot_of, Under, Earlier}
-use Rattle.devices.specs.Ends.{Ends, DeviceAt, OddAt}
+use Rattle.devices.specs.declared.entry.Found.TheVariants.{Odd, Refused, Memory}
+use Rattle.devices.specs.Channels.{spot_of, Under, Earlier}
+use Rattle.devices.specs.Ends.{DeviceAt, OddAt}
 use Rattle.devices.specs.Readings.{device_at, device_spot, terminal_spot, Enumerated, Written}
-use Rattle.devices.specs.Findings.{place_at, Listed, Crowded, devices_refusal, RefusedAt, ReadInto, Says, SaysSo}
+use Rattle.devices.specs.Findings.{place_at, Listed, Crowded, devices_refusal, ReadInto, Says, SaysSo}
 use Rattle.devices.proofs.Channels.{unders-back, ends-move}
 
 module _ (k : Technology) (d : Drawing) (vs : List Device) (all : Enumerated k d vs) where

@@ -1,9 +1,9 @@
 -- From borders to what lies beside a channel, and from that to its device, or that it is none.
-use Rattle.std.proofs.Common.{◌≡◌, ℕ, ◌<◌, true, false, cond, ◌⊎◌, List, Some, None, Option, sym, refl, ap, ◌∙◌, subst, inl, inr, arith}
+use Rattle.std.proofs.Common.{◌≡◌, ℕ, ◌⊎◌, List, Some, None, Option, sym, refl, ◌∙◌, subst, inl, inr, arith}
 use Rattle.std.specs.List.{ContainsAt as In}
 use Rattle.std.proofs.lemmas.Bool.{cases_Bool, cond-true, cond-false}
 use Rattle.layout.specs.Layout.{Drawing}
-use Rattle.nets.specs.Nets.{Technology, Spot, Way, stays}
+use Rattle.nets.specs.Nets.{Technology, Spot, Way}
 use Rattle.nets.proofs.Ways.{ways_on, ways_back}
 use Rattle.devices.specs.declared.border.Border.{Border}
 use Rattle.devices.specs.declared.terminal.Terminal.{Terminal}

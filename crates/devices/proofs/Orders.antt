@@ -1,5 +1,5 @@
 -- The order of squares, and of the first squares of tiles and channels.
-use Rattle.std.proofs.Common.{◌≡◌, ℕ, ◌<◌, ◌≤◌, true, ◌⊎◌, List, length, sym, refl, ◌∙◌, subst, inl, inr, arith}
+use Rattle.std.proofs.Common.{◌≡◌, ℕ, ◌<◌, true, ◌⊎◌, List, length, sym, refl, ◌∙◌, subst, inl, inr, arith}
 use Rattle.std.proofs.lemmas.Bool.{cases_order, cases_lt}
 use Rattle.layout.specs.Layout.{Drawing}
 use Rattle.tiles.specs.declared.tile.Tile.{Tile}
@@ -8,7 +8,7 @@ use Rattle.tiles.proofs.Tiles.{solid-at, before, holds-within}
 use Rattle.nets.specs.Nets.{Technology, Spot, on}
 use Rattle.nets.specs.Wires.{Has}
 use Rattle.nets.proofs.Wires.{has-wire, wire-place}
-use Rattle.devices.specs.Channels.{channel, spot_of, Under, Earlier, First}
+use Rattle.devices.specs.Channels.{channel, Earlier, First}
 use Rattle.devices.specs.Pieces.{root_of_lem, Gated}
 use Rattle.devices.specs.Readings.{corner}
 use Rattle.devices.proofs.Channels.{plain, on-plain, tiled-plain, crossed-layer, under-ends}

@@ -1,15 +1,13 @@
 -- The first item of the group of each, in a list.
-use Rattle.std.proofs.Common.{◌≡◌, ℕ, ◌+◌, ◌<◌, ◌≤◌, ◌&&◌, eqb, List, [], ◌∷◌, ◌++◌, length, vec_items, sym, refl, ap, ◌∙◌, subst, inl, inr, arith}
+use Rattle.std.proofs.Common.{◌≡◌, ℕ, ◌+◌, ◌<◌, ◌≤◌, List, [], ◌∷◌, ◌++◌, length, vec_items, sym, ap, ◌∙◌, subst, inl, inr, arith}
 use Rattle.std.proofs.lemmas.List.{length_push, get_or_append_left, get_or_push, get_or_past}
 use Rattle.std.proofs.lemmas.Bool.{cases_lt}
 use Rattle.layout.specs.Layout.{Drawing}
-use Rattle.groups.specs.Roots.{root}
 use Rattle.groups.specs.Names.{size, group}
 use Rattle.groups.specs.Chains.{Grouped}
 use Rattle.groups.specs.declared.forest.Groups.{Groups}
 use Rattle.groups.proofs.Roots.{root-low, root-at, root_ends}
 use Rattle.scanline.specs.declared.band.Band.{Band}
-use Rattle.scanline.specs.Bands.{covers}
 use Rattle.tiles.specs.declared.tile.Tile.{Tile}
 use Rattle.tiles.specs.Tiles.{held, Ordered}
 use Rattle.tiles.specs.Cuts.{Cut}

@@ -1,22 +1,22 @@
 -- The walk over the tiles of channels: a device for each first tile, or the first odd channel.
-use Rattle.std.proofs.Common.{◌≡◌, ℕ, ◌+◌, ◌<◌, ◌≤◌, true, ◌⊎◌, List, [], ◌∷◌, ◌++◌, length, get_or, Some, None, sym, refl, ap, ◌∙◌, subst, inl, inr, arith}
+use Rattle.std.proofs.Common.{◌≡◌, ℕ, ◌+◌, ◌<◌, ◌≤◌, ◌⊎◌, List, [], ◌∷◌, ◌++◌, length, get_or, Some, None, sym, refl, ap, subst, inl, inr, arith}
 use Rattle.std.proofs.lemmas.List.{length_push, get_or_append_left, get_or_push}
-use Rattle.std.proofs.lemmas.Bool.{cases_lt, cases_eq, cases_order}
+use Rattle.std.proofs.lemmas.Bool.{cases_lt, cases_eq}
 use Rattle.layout.specs.Layout.{Drawing}
 use Rattle.tiles.specs.declared.tile.Tile.{Tile}
 use Rattle.tiles.specs.Tiles.{tile_at}
 use Rattle.tiles.proofs.Tiles.{holds-within}
-use Rattle.nets.specs.Nets.{Technology, Spot, on}
+use Rattle.nets.specs.Nets.{Technology}
 use Rattle.devices.specs.declared.terminal.Terminal.{Terminal}
 use Rattle.devices.specs.declared.terminal.Terminals.{Terminals}
 use Rattle.devices.specs.declared.terminal.Terminals.TheVariants.{Isolated}
 use Rattle.devices.specs.declared.reading.Device.{Device}
-use Rattle.devices.specs.Channels.{channel, spot_of, Under, Earlier}
-use Rattle.devices.specs.Ends.{Ends, DeviceAt, OddAt}
+use Rattle.devices.specs.Channels.{spot_of, Under, Earlier}
+use Rattle.devices.specs.Ends.{DeviceAt, OddAt}
 use Rattle.devices.specs.Pieces.{root_of_lem}
 use Rattle.devices.specs.Terminals.{ends_of}
 use Rattle.devices.specs.Readings.{terminal_spot, corner, Known, device_at, device_spot, Enumerated}
-use Rattle.devices.proofs.Channels.{unders-back, ends-move}
+use Rattle.devices.proofs.Channels.{ends-move}
 use Rattle.devices.proofs.Orders.{channel-place, corner-has, corner-order, earlier-tile, root-first}
 use Rattle.devices.proofs.Judgements.{judged-device, judged-odd}
 

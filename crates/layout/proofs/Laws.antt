@@ -1,8 +1,8 @@
 -- The laws of layouts. Assumes nothing.
-use Rattle.std.proofs.Common.{◌≡◌, ℕ, ◌+◌, ◌-◌, ◌<◌, ltb, arith}
+use Rattle.std.proofs.Common.{◌≡◌, ℕ, ◌+◌, ◌-◌, ◌<◌, arith}
 use Rattle.std.proofs.lemmas.Bool.Decides.{nat_tests}
 use Rattle.std.proofs.lemmas.Bool.{lt-ltb}
-use Rattle.layout.specs.Layout.{Layout, nothing, box, moved, turned, mirrored, Drawing, shifted, drawn_with}
+use Rattle.layout.specs.Layout.{Layout, box, moved, turned, mirrored, Drawing, shifted, drawn_with}
 
 pub box-moved : (c : ℕ → Drawing) (r b l u v a h k x y : ℕ) → drawn_with c (moved r b (box l u v a h)) k x y ≡ drawn_with c (box l (u + r) (v + b) a h) k x y
 unfolding drawn_with shifted

@@ -1,15 +1,15 @@
 -- What a node of a checked layout stands for. Assumes nothing.
-use Rattle.std.proofs.Common.{◌≡◌, ℕ, zero, suc, ◌+◌, ◌-◌, ◌*◌, ◌^◌, ◌<◌, true, List, sym, refl, ap, ◌∙◌, subst, inl, inr, mul-zero, arith}
+use Rattle.std.proofs.Common.{◌≡◌, ℕ, zero, suc, ◌+◌, ◌*◌, ◌^◌, ◌<◌, true, List, sym, refl, ap, ◌∙◌, subst, inl, inr, mul-zero, arith}
 use Rattle.std.proofs.lemmas.Bool.{and_parts, cases_eq}
 use Rattle.std.proofs.ByRecursion.{All-append, All-weaker}
 use Rattle.std.proofs.lemmas.Nat.{mul-le}
 use Rattle.std.specs.List.{AllByRecursion}
 use Rattle.layout.specs.Limits.{max_number}
-use Rattle.layout.specs.Layout.{Layout, nothing, box, both, row, column}
+use Rattle.layout.specs.Layout.{Layout, both, row, column}
 use Rattle.layout.specs.Numbers.{node_at, sixes, earlier}
 use Rattle.layout.specs.Nodes.{layout_of, Modest, numbered, orderly, Read}
 use Rattle.layout.specs.Pieces.{piece, Sound}
-use Rattle.layout.specs.Rects.{copies, rects, Within}
+use Rattle.layout.specs.Rects.{rects, Within}
 use Rattle.layout.specs.declared.node.Node.{Node}
 use Rattle.layout.specs.declared.node.Node.TheVariants.{Nothing, One, Both, Changed, Row, Column}
 use Rattle.layout.specs.Changes.{changed}

@@ -1,9 +1,9 @@
 -- What each arm of the recursion leaves. Assumes nothing.
-use Rattle.std.proofs.Common.{◌≡◌, ℕ, zero, suc, ◌+◌, ◌-◌, ◌^◌, ◌<◌, ◌≤◌, List, [], ◌∷◌, ◌++◌, map, length, get_or, take, drop, sym, ap, ◌∙◌, subst, zero-mul, arith}
+use Rattle.std.proofs.Common.{◌≡◌, ℕ, zero, suc, ◌-◌, ◌^◌, ◌<◌, ◌≤◌, List, [], ◌∷◌, ◌++◌, map, length, get_or, take, drop, sym, ap, ◌∙◌, subst, zero-mul, arith}
 use Rattle.std.proofs.lemmas.List.{append-nil, append_assoc, take_at, drop_at, length-append, get_or-append_right, nil_from_length}
 use Rattle.std.proofs.ByRecursion.{All-get_or}
 use Rattle.std.specs.List.{AllWithin, AllByRecursion}
-use Rattle.layout.specs.Layout.{Layout, nothing, box, row, column}
+use Rattle.layout.specs.Layout.{Layout, row, column}
 use Rattle.layout.specs.Numbers.{sixes, boxes}
 use Rattle.layout.specs.Nodes.{layout_of, Read}
 use Rattle.layout.specs.Counts.{Counted}

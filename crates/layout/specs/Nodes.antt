@@ -7,7 +7,6 @@ use Rattle.layout.specs.Rects.{Within}
 use Rattle.layout.specs.declared.node.Node.{Node}
 use Rattle.layout.specs.declared.node.Node.TheVariants.{Nothing, One, Both, Changed, Row, Column}
 use Rattle.layout.specs.Changes.{changed, Little}
-use Rattle.layout.specs.declared.change.Change.{Change}
 
 -- the layout that a node is, with what the named ones are
 abbrev pub layout_of : (ℕ → Layout) → Node → Layout

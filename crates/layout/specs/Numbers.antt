@@ -1,5 +1,5 @@
 -- A layout in numbers: nodes of six that name earlier nodes only. Assumes nothing: these are definitions.
-use Rattle.std.specs.Prelude.{ℕ, zero, suc, ◌+◌, ◌-◌, ◌*◌, Bool, true, not, ◌&&◌, List, [], ◌∷◌, length, ◌==◌, nat_le, nat_lt, slice_index}
+use Rattle.std.specs.Prelude.{ℕ, zero, suc, ◌+◌, ◌-◌, ◌*◌, Bool, true, ◌&&◌, List, [], ◌∷◌, length, ◌==◌, nat_le, nat_lt, slice_index}
 use Rattle.layout.specs.Limits.{max_boxes, max_nodes, max_number}
 use Rattle.layout.specs.Layout.{pick, Layout, nothing, box, both, moved, turned, mirrored, row, column, cell, Drawing, drawn}
 

@@ -8,7 +8,7 @@ use Rattle.layout.specs.Checks.{FirstAbove}
 use Rattle.layout.proofs.Checks.{all_not}
 use Rattle.groups.specs.Numbers.{Numbered}
 use Rattle.tiles.specs.declared.tile.Tile.{Tile}
-use Rattle.tiles.specs.Tiles.{none, tile_at, Holds, in_tile, held, Ordered, Located}
+use Rattle.tiles.specs.Tiles.{tile_at, Holds, in_tile, held, Ordered, Located}
 use Rattle.tiles.proofs.Tiles.{holds_decides, place-held, one-holder}
 use Rattle.nets.specs.Limits.{max_spots, max_spot}
 use Rattle.nets.specs.Nets.{Technology, wire, on}

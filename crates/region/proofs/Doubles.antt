@@ -1,9 +1,9 @@
 -- Widening by doubling, and widening backward. Assumes nothing.
-use Rattle.std.proofs.Common.{◌≡◌, ℕ, suc, ◌+◌, ◌-◌, ◌^◌, ◌<◌, ◌≤◌, Bool, true, false, ◌&&◌, ◌||◌, leb, ◌⊎◌, List, Decides, sym, refl, ap, ◌∙◌, subst, inl, inr, ⊎_elim, arith}
+use Rattle.std.proofs.Common.{◌≡◌, ℕ, ◌+◌, ◌-◌, ◌≤◌, Bool, true, ◌&&◌, ◌||◌, leb, List, Decides, sym, ap, ◌∙◌, subst, inl, inr, ⊎_elim, arith}
 use native.Mathlib.Nat.{sub-zero}
 use Rattle.std.proofs.lemmas.Bool.{cases_lt, cases_Bool, le-leb, leb-true, both_ways, and_parts, and_from, or_cases, or_left, or_right}
 use Rattle.scanline.specs.declared.Op.TheVariants.{Or}
-use Rattle.scanline.specs.Lines.{Near, Room}
+use Rattle.scanline.specs.Lines.{Near}
 use Rattle.scanline.specs.declared.band.Band.{Band}
 use Rattle.scanline.specs.Bands.{covers}
 use Rattle.region.specs.Regions.{Combined}

@@ -1,10 +1,10 @@
 -- A change of each band's line. Assumes nothing.
-use Rattle.std.proofs.Common.{◌≡◌, ℕ, suc, ◌+◌, ◌<◌, ◌≤◌, Bool, true, false, cond, ◌&&◌, leb, List, [], ◌∷◌, ◌++◌, length, get_or, take, drop, sym, refl, ap, ◌∙◌, subst, ⊎_elim, arith}
+use Rattle.std.proofs.Common.{◌≡◌, ℕ, suc, ◌+◌, ◌<◌, ◌≤◌, Bool, true, false, ◌&&◌, leb, List, [], ◌∷◌, ◌++◌, length, get_or, take, drop, sym, refl, ◌∙◌, subst, ⊎_elim, arith}
 use Rattle.std.proofs.lemmas.List.{take_more, take_all, drop_more}
 use Rattle.std.proofs.lemmas.Bool.{cases_lt, le-leb, lt-leb, false≢true}
 use Rattle.scanline.specs.Lines.{Widened, MovedRight, MovedLeft}
 use Rattle.scanline.specs.declared.band.Band.{Band}
-use Rattle.scanline.specs.Bands.{edges, line_at, lastLine, Canonical, Added}
+use Rattle.scanline.specs.Bands.{edges, line_at, Canonical, Added}
 use Rattle.scanline.proofs.Rows.{From, Canon, canonical-from, canon_canonical, canon_more, canon_push, line-late, line-push}
 
 -- the lines of the first i bands are changed: P says how a new line follows from the old one

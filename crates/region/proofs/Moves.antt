@@ -1,12 +1,12 @@
 -- Bands moved down. Assumes nothing.
-use Rattle.std.proofs.Common.{◌≡◌, ℕ, zero, suc, ◌+◌, ◌-◌, ◌^◌, ◌<◌, ◌≤◌, max, Bool, true, false, cond, not, ◌&&◌, leb, ◌⊎◌, List, [], ◌∷◌, ◌++◌, length, get_or, take, drop, sym, refl, ap, ◌∙◌, subst, inl, inr, ⊎_elim, arith, take-append-drop}
-use Rattle.std.proofs.lemmas.List.{take_more, take_all, drop_more, get_or_read}
+use Rattle.std.proofs.Common.{◌≡◌, ℕ, zero, suc, ◌+◌, ◌-◌, ◌^◌, ◌<◌, ◌≤◌, max, true, cond, not, ◌&&◌, leb, List, [], ◌∷◌, ◌++◌, length, get_or, take, drop, sym, refl, ap, ◌∙◌, subst, inl, inr, ⊎_elim, arith, take-append-drop}
+use Rattle.std.proofs.lemmas.List.{take_more, take_all, drop_more}
 use Rattle.std.proofs.lemmas.Bool.{cases_lt, le-leb, lt-leb, leb-true, and_parts, and_from}
 use Rattle.std.specs.Str.{bytes_eq}
 use Rattle.scanline.specs.Lines.{inside}
 use Rattle.scanline.specs.declared.band.Band.{Band}
 use Rattle.scanline.specs.Bands.{edges, line_at, covers, canonical, Canonical, Added}
-use Rattle.region.specs.Shifts.{RowRoom, ShiftedDown, ShiftedUp}
+use Rattle.region.specs.Shifts.{ShiftedDown, ShiftedUp}
 use Rattle.region.proofs.Unique.{still-upper, upper_at}
 use Rattle.scanline.proofs.Rows.{From, Canon, canonical-from, canon_canonical, canon_more, line_before, line-push, topped}
 

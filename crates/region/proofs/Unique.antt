@@ -1,14 +1,14 @@
 -- A set of squares has one canonical list of bands. Assumes nothing.
-use Rattle.std.proofs.Common.{◌≡◌, ℕ, zero, suc, ◌<◌, ◌≤◌, Bool, true, false, cond, not, eqb, leb, ◌⊎◌, List, [], ◌∷◌, length, get_or, drop, Decides, sym, refl, ap, ◌∙◌, subst, inl, inr, ⊎_elim, arith}
+use Rattle.std.proofs.Common.{◌≡◌, ℕ, zero, suc, ◌<◌, ◌≤◌, Bool, true, false, cond, not, eqb, leb, ◌⊎◌, List, [], ◌∷◌, length, get_or, drop, Decides, sym, refl, ap, ◌∙◌, inl, inr, ⊎_elim, arith}
 use Rattle.std.specs.Str.{bytes_eq}
 use Rattle.std.proofs.lemmas.Slice.Eq.{bytes_eq-Decides}
-use Rattle.std.proofs.lemmas.Bool.{cases_lt, cases_order, le-leb, and_parts, not-true, both_ways, leb-true, eq-eqb, eqb-true, false≢true}
+use Rattle.std.proofs.lemmas.Bool.{cases_lt, cases_order, le-leb, and_parts, not-true, both_ways, leb-true, eq-eqb, eqb-true}
 use Rattle.scanline.specs.Lines.{inside, Sorted}
 use Rattle.scanline.proofs.Unique.{one_line}
 use Rattle.scanline.specs.declared.band.Band.{Band}
 use Rattle.scanline.specs.Bands.{edges, line_at, covers, canonical, Canonical}
 use Rattle.region.specs.Regions.{Alike}
-use Rattle.scanline.proofs.Rows.{From, canonical-from, line_before}
+use Rattle.scanline.proofs.Rows.{canonical-from, line_before}
 
 -- what canonical says, taken apart
 pub canon_parts : (line : List ℕ) (p : ℕ) (b : Band) (bs : List Band) → canonical line p (b ∷ bs) ≡ true → (p ≤ b.from) × (line ≡ edges b → ⊥) × (canonical (edges b) (suc b.from) bs ≡ true)

@@ -1,5 +1,5 @@
 -- Terms evaluated in their order, and the squares that break a rule. Assumes nothing.
-use Rattle.std.proofs.Common.{◌≡◌, ℕ, zero, suc, ◌+◌, ◌-◌, ◌*◌, ◌^◌, ◌<◌, ◌≤◌, Bool, true, false, not, ◌&&◌, ◌||◌, ◌⊎◌, List, [], ◌∷◌, ◌++◌, length, get_or, vec_items, sym, refl, ap, ◌∙◌, subst, inl, inr, add-one, arith, length-append}
+use Rattle.std.proofs.Common.{◌≡◌, ℕ, zero, suc, ◌+◌, ◌-◌, ◌*◌, ◌^◌, ◌<◌, ◌≤◌, Bool, true, not, ◌&&◌, ◌||◌, List, [], ◌∷◌, length, get_or, vec_items, sym, refl, ap, ◌∙◌, subst, inl, inr, arith, length-append}
 use Rattle.std.proofs.lemmas.Bool.{cases_lt, cases_eq}
 use Rattle.std.proofs.lemmas.List.{get_or_append_left, get_or-append_right}
 use Rattle.layout.specs.Layout.{Drawing}
@@ -14,9 +14,8 @@ use Rattle.rules.specs.Rules as rules
 use Rattle.rules.specs.Rules.{squares, breaks, surrounded}
 use Rattle.rules.specs.Numbers.{max_number}
 use Rattle.rules.specs.Terms.{term_region, Names}
-use Rattle.rules.specs.Tests.{test_rule, Mild, needs}
 use Rattle.rules.specs.Layers.{shows}
-use Rattle.rules.specs.Values.{values, value, held_rule, Sound, Over, among, Needed, Shown, done_at, TermDone, Evaluated}
+use Rattle.rules.specs.Values.{values, value, Sound, Over, among, Shown, done_at, TermDone, Evaluated}
 use Rattle.rules.specs.declared.term.Term.{Term}
 use Rattle.rules.specs.declared.term.Term.TheVariants.{Layer, And, Or, Without, Grown}
 use Rattle.rules.specs.declared.rule.Rule.{Rule}

@@ -5,7 +5,7 @@ use Rattle.layout.specs.Layout.{nothing, box, both, Drawing, drawn_with, drawn}
 use Rattle.region.specs.Firsts.{Squares, First}
 use Rattle.blocks.specs.Blocks.{any_of, all_of, block, in_a_block, drawn_in, free_block}
 use Rattle.blocks.proofs.Counts.{any_true, true_any, all_true}
-use Rattle.rules.specs.Rules.{Region, layer, and, Rule, wide, apart, inside, never, squares, breaks}
+use Rattle.rules.specs.Rules.{Region, layer, Rule, wide, apart, inside, never, squares, breaks}
 use Rattle.rules.specs.Laws.{reach_of, Decided, two_boxes, ThreeBreak, Table}
 use Rattle.rules.proofs.Extents.{size, low-drawn, low-region, low_wide, low-apart, low-inside}
 

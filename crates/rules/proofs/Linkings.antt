@@ -1,24 +1,22 @@
 -- The rule that is held is the rule of its numbers, and boxes draw what settles. Assumes nothing.
-use Rattle.std.proofs.Common.{◌≡◌, ℕ, zero, suc, ◌+◌, ◌-◌, ◌*◌, ◌^◌, ◌<◌, ◌≤◌, Bool, true, false, not, ◌&&◌, ◌||◌, eqb, ltb, leb, ◌⊎◌, List, [], ◌∷◌, ◌++◌, length, get_or, drop, Some, None, Option, sym, refl, ap, ◌∙◌, subst, inl, inr, add-one, arith}
+use Rattle.std.proofs.Common.{◌≡◌, ℕ, zero, suc, ◌+◌, ◌-◌, ◌*◌, ◌^◌, ◌<◌, ◌≤◌, Bool, false, List, [], ◌∷◌, ◌++◌, length, get_or, drop, Some, None, Option, sym, refl, ap, ◌∙◌, arith}
 use Rattle.std.specs.List.{AllByRecursion}
 use Rattle.std.proofs.lemmas.List.{drop_more, drop_all}
-use Rattle.std.proofs.lemmas.Bool.{cases_lt, le-leb, lt-leb, lt-ltb, le-ltb}
+use Rattle.std.proofs.lemmas.Bool.{le-ltb}
 use Rattle.std.proofs.lemmas.Bool.Decides.{nat_tests}
 use Rattle.layout.specs.Layout.{Drawing}
 use Rattle.layout.specs.Rects.{in_rect, covered, Within}
 use Rattle.layout.specs.declared.rect.Rect.{Rect}
-use Rattle.region.specs.Firsts.{Squares, First, FirstOf}
+use Rattle.region.specs.Firsts.{Squares, FirstOf}
 use Rattle.blocks.specs.Settled.{Settled}
 use Rattle.rules.specs.Rules as rules
 use Rattle.rules.specs.Rules.{breaks}
-use Rattle.rules.specs.Numbers.{region_of, regions_from, regions_in, meant, rule_in, rule_fault, number_fault, or_else, further, regions_fault, Taken}
-use Rattle.rules.specs.Terms.{term_region, Names, Read}
-use Rattle.rules.specs.Tests.{test_rule, needs, TermsRead, RuleRead}
-use Rattle.rules.specs.Layers.{shows, Swept}
-use Rattle.rules.specs.Values.{values, value, held_rule, Sound, Shown, among}
+use Rattle.rules.specs.Numbers.{regions_from, regions_in, meant, rule_in, number_fault, or_else, further, Taken}
+use Rattle.rules.specs.Tests.{test_rule, TermsRead, RuleRead}
+use Rattle.rules.specs.Layers.{Swept}
+use Rattle.rules.specs.Values.{values, value, held_rule, Sound, Shown}
 use Rattle.rules.specs.Judged.{LayersMarked}
 use Rattle.rules.specs.declared.term.Term.{Term}
-use Rattle.rules.specs.declared.term.Term.TheVariants.{Layer}
 use Rattle.rules.specs.declared.rule.Rule.{Rule}
 use Rattle.rules.specs.declared.layers.Layers.{Layers}
 use Rattle.rules.proofs.Evaluations.{value-at, values-long}

@@ -1,7 +1,7 @@
 -- Regions read one by one, up to the first fault. Assumes nothing.
-use Rattle.std.proofs.Common.{◌≡◌, ℕ, zero, suc, ◌+◌, ◌*◌, ◌/◌, ◌%◌, ◌<◌, ◌≤◌, Bool, true, false, ◌||◌, eqb, ltb, ◌≢◌, ◌⊎◌, List, [], ◌∷◌, length, get_or, set, Some, None, Option, sym, refl, ap, ◌∙◌, subst, inl, inr, add-one, arith, get_or-set_other, get_or-set_same, below_more}
-use Rattle.std.proofs.lemmas.Bool.{cases_lt, cases_eq, or_parts, or_cases, ltb-true, ltb-false, eqb-true, eqb-false, not-true, not-false, eq-eqb, ne_eqb}
-use Rattle.rules.specs.Numbers.{region_fault, regions_fault, or_else, further, least_regions, number_fault, rule_fault}
+use Rattle.std.proofs.Common.{◌≡◌, ℕ, zero, suc, ◌+◌, ◌*◌, ◌<◌, ◌≤◌, ◌≢◌, List, length, get_or, set, Some, None, Option, refl, subst, inl, inr, add-one, arith, get_or-set_other, get_or-set_same, below_more}
+use Rattle.std.proofs.lemmas.Bool.{cases_lt, cases_eq}
+use Rattle.rules.specs.Numbers.{region_fault, regions_fault}
 use Rattle.rules.specs.Terms.{Read}
 use Rattle.rules.specs.Tests.{TermsRead}
 use Rattle.rules.specs.declared.term.Term.{Term}

@@ -1,5 +1,5 @@
 -- What judging a rule answers. Assumes nothing: these are definitions.
-use Rattle.std.specs.Prelude.{◌≡◌, ℕ, ◌<◌, Bool, true, false, ◌⊎◌, List, length, Some, None, Ok, Err, Option, Result, slice_index_or}
+use Rattle.std.specs.Prelude.{◌≡◌, ℕ, ◌<◌, Bool, true, false, ◌⊎◌, List, length, Ok, Err, Option, Result, slice_index_or}
 use Rattle.layout.specs.Numbers.{layout_refusal, layout_in}
 use Rattle.layout.specs.Checks.{TurnedAway}
 use Rattle.layout.specs.declared.refusal.Fault.{Fault}
@@ -8,7 +8,6 @@ use Rattle.region.specs.Firsts.{First, FirstOf}
 use Rattle.rules.specs.Rules.{breaks}
 use Rattle.rules.specs.Numbers.{rule_in, RuleTurned, Taken}
 use Rattle.rules.specs.Values.{among}
-use Rattle.rules.specs.declared.term.Term.{Term}
 use Rattle.rules.specs.declared.term.Term.TheVariants.{Layer}
 use Rattle.rules.specs.declared.rule.Rule.{Rule}
 use Rattle.rules.specs.declared.judge.Verdict.{Verdict}

@@ -1,7 +1,6 @@
 -- The regions of layers, swept once. Assumes nothing: these are definitions.
-use Rattle.std.specs.Prelude.{◌≡◌, ℕ, ◌<◌, Bool, true, false, List, length, get_or, vec_items, slice_index_or}
+use Rattle.std.specs.Prelude.{◌≡◌, ℕ, Bool, true, false, List, get_or, vec_items, slice_index_or}
 use Rattle.layout.specs.Layout.{Drawing}
-use Rattle.region.specs.Firsts.{Squares}
 use Rattle.scanline.specs.Bands.{covers}
 use Rattle.rules.specs.declared.layers.Layers.{Layers}
 

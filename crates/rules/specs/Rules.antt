@@ -1,5 +1,5 @@
 -- Regions made of layers, rules about them, and which squares break a rule. Assumes nothing: these are definitions.
-use Rattle.std.specs.Prelude.{ℕ, ◌+◌, ◌-◌, ◌*◌, Bool, true, false, not, ◌&&◌, ◌||◌, nat_le}
+use Rattle.std.specs.Prelude.{ℕ, ◌+◌, ◌-◌, ◌*◌, not, ◌&&◌, ◌||◌, nat_le}
 use Rattle.layout.specs.Layout.{Drawing}
 use Rattle.region.specs.Firsts.{Squares}
 use Rattle.blocks.specs.Blocks.{all_of, near, in_a_block, free_block}

@@ -1,5 +1,5 @@
 -- Regions of a rule as they are held: each a term that names earlier ones. Assumes nothing: these are definitions.
-use Rattle.std.specs.Prelude.{◌≡◌, ℕ, ◌<◌, ◌≤◌, Bool, true, false, List, Some, None, Ok, Err, Result}
+use Rattle.std.specs.Prelude.{◌≡◌, ℕ, ◌<◌, ◌≤◌, Some, None, Ok, Err, Result}
 use Rattle.rules.specs.Rules as rules
 use Rattle.rules.specs.Rules.{Region}
 use Rattle.rules.specs.Numbers.{region_of, region_fault, max_number}

@@ -3,8 +3,8 @@ use Rattle.std.specs.Prelude.{◌≡◌, ℕ, ◌+◌, ◌*◌, ◌<◌, ◌≤�
 use Rattle.layout.specs.Layout.{pick}
 use Rattle.layout.specs.declared.refusal.Refusal.{Refusal}
 use Rattle.rules.specs.Rules as rules
-use Rattle.rules.specs.Numbers.{number_fault, rule_fault, least_regions, max_regions, max_number, regions_fault, RuleTurned}
-use Rattle.rules.specs.Terms.{Read, Names}
+use Rattle.rules.specs.Numbers.{number_fault, least_regions, max_regions, max_number, regions_fault, RuleTurned}
+use Rattle.rules.specs.Terms.{Read}
 use Rattle.rules.specs.declared.term.Term.{Term}
 use Rattle.rules.specs.declared.term.Term.TheVariants.{Layer}
 use Rattle.rules.specs.declared.rule.Test.{Test}

@@ -8,14 +8,13 @@ use Rattle.blocks.specs.Blocks.{near}
 use Rattle.blocks.specs.Settled.{Settled, Exactly}
 use Rattle.rules.specs.Rules as rules
 use Rattle.rules.specs.Rules.{squares, breaks}
-use Rattle.rules.specs.Numbers.{max_number, max_regions}
+use Rattle.rules.specs.Numbers.{max_regions}
 use Rattle.rules.specs.Terms.{term_region, Names}
 use Rattle.rules.specs.Tests.{test_rule, Mild, needs}
 use Rattle.rules.specs.Layers.{shows}
 use Rattle.rules.specs.declared.term.Term.{Term}
 use Rattle.rules.specs.declared.term.Term.TheVariants.{Layer, And, Or, Without, Grown}
 use Rattle.rules.specs.declared.rule.Rule.{Rule}
-use Rattle.rules.specs.declared.rule.Test.{Test}
 use Rattle.rules.specs.declared.layers.Layers.{Layers}
 
 -- the regions of the first n terms

@@ -1,11 +1,10 @@
 -- Lists of bands in normal form, and what they show row by row. Assumes nothing.
-use Rattle.std.proofs.Common.{◌≡◌, ℕ, suc, ◌+◌, ◌-◌, ◌<◌, ◌≤◌, Bool, true, false, cond, not, eqb, leb, ◌⊎◌, List, [], ◌∷◌, ◌++◌, length, get_or, drop, sym, refl, ap, ◌∙◌, subst, inl, inr, ⊎_elim, arith}
-use Rattle.std.proofs.lemmas.Bool.{cases_lt, le-leb, lt-leb, leb-true, and_parts, and_from, not-true, not_from_false, cases_Bool}
+use Rattle.std.proofs.Common.{◌≡◌, ℕ, suc, ◌-◌, ◌<◌, ◌≤◌, true, false, cond, not, leb, List, [], ◌∷◌, ◌++◌, length, get_or, refl, ap, ◌∙◌, inl, inr, ⊎_elim, arith}
+use Rattle.std.proofs.lemmas.Bool.{le-leb, lt-leb, leb-true, and_parts, and_from, not_from_false, cases_Bool}
 use Rattle.std.proofs.lemmas.Slice.Eq.{bytes_eq-Decides}
 use Rattle.std.specs.Str.{bytes_eq}
-use Rattle.scanline.specs.Lines.{inside}
 use Rattle.scanline.specs.declared.band.Band.{Band}
-use Rattle.scanline.specs.Bands.{edges, line_at, covers, canonical, Canonical, lastLine, Added}
+use Rattle.scanline.specs.Bands.{edges, line_at, canonical, lastLine, Added}
 
 -- the bands begin at p or after, one after another
 abbrev pub From : ℕ → List Band → Type 0

@@ -1,12 +1,12 @@
 -- Lines moved to the right and to the left. Assumes nothing.
-use Rattle.std.proofs.Common.{◌≡◌, ℕ, suc, ◌+◌, ◌-◌, ◌^◌, ◌<◌, ◌≤◌, Bool, true, false, not, ◌&&◌, eqb, leb, ◌⊎◌, List, [], ◌∷◌, ◌++◌, length, get_or, take, drop, is_some, Some, None, Option, sym, refl, ap, ◌∙◌, subst, inl, inr, ⊎_elim, arith, take-append-drop}
+use Rattle.std.proofs.Common.{◌≡◌, ℕ, suc, ◌+◌, ◌-◌, ◌^◌, ◌<◌, ◌≤◌, Bool, true, false, ◌&&◌, eqb, leb, List, [], ◌∷◌, ◌++◌, length, get_or, take, drop, is_some, Some, None, Option, sym, refl, ap, ◌∙◌, inl, inr, ⊎_elim, arith, take-append-drop}
 use Rattle.std.proofs.lemmas.List.{take_more, take_all, drop_more}
 use Rattle.std.specs.List.{AllByRecursion}
 use Rattle.std.proofs.ByRecursion.{All-get_or}
 use Rattle.std.proofs.lemmas.Bool.{cases_lt, cases_order, le-leb, lt-leb, eqb-true, eqb-false, false≢true}
 use Rattle.std.specs.Option.{option_to_list}
-use Rattle.scanline.specs.Lines.{differ, inside, Sorted, Room, MovedRight, MovedLeft, ends_in_lem, Toggled}
-use Rattle.scanline.proofs.Merge.{From, rises-from, from-rises, Between, between-from, between-push, between_more, inside-push, inside-before, differ-false, differ-assoc}
+use Rattle.scanline.specs.Lines.{differ, inside, Sorted, MovedRight, MovedLeft, ends_in_lem, Toggled}
+use Rattle.scanline.proofs.Merge.{From, rises-from, from-rises, Between, between-from, between-push, between_more, inside-push, inside-before, differ-false}
 use Rattle.scanline.proofs.Widens.{Below, still-below, inside-append}
 
 -- an edge at a moved place

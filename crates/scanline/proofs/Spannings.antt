@@ -1,17 +1,17 @@
 -- The spans of a layer's boxes, in the order of their rows. Assumes nothing.
-use Rattle.std.proofs.Common.{◌≡◌, ℕ, zero, suc, ◌+◌, ◌-◌, ◌*◌, ◌<◌, ◌≤◌, min, Bool, true, false, cond, not, ◌&&◌, ◌||◌, eqb, ltb, leb, ◌⊎◌, List, [], ◌∷◌, ◌++◌, length, get_or, take, drop, sym, refl, ap, ◌∙◌, subst, inl, inr, ⊎_elim, add-one, arith, take-append-drop}
+use Rattle.std.proofs.Common.{◌≡◌, ℕ, zero, suc, ◌+◌, ◌<◌, ◌≤◌, Bool, true, false, ◌&&◌, ◌||◌, eqb, ltb, leb, ◌⊎◌, List, [], ◌∷◌, ◌++◌, length, get_or, take, drop, sym, refl, ap, ◌∙◌, subst, inl, inr, add-one, arith, take-append-drop}
 use Rattle.std.specs.List.{AllByRecursion}
-use Rattle.std.proofs.lemmas.List.{take_more, take_all}
+use Rattle.std.proofs.lemmas.List.{take_more}
 use Rattle.std.specs.List.Sorted.{IsPermutation}
-use Rattle.std.proofs.lemmas.List.Sorted.{IsPermutation-sym, IsPermutation-keeps}
-use Rattle.std.proofs.ByRecursion.{all_shuffled, has_shuffled}
-use Rattle.std.proofs.lemmas.Bool.{cases_lt, cases_eq, cases_Bool, le-leb, lt-leb, lt-ltb, le-ltb, eq-eqb, eqb-true, ltb-true, and_parts, or_parts, or_from, false≢true}
+use Rattle.std.proofs.lemmas.List.Sorted.{IsPermutation-sym}
+use Rattle.std.proofs.ByRecursion.{all_shuffled}
+use Rattle.std.proofs.lemmas.Bool.{cases_eq, cases_Bool, le-leb, eq-eqb, eqb-true, ltb-true, and_parts, or_parts, or_from, false≢true}
 use Rattle.std.proofs.lemmas.Bool.Decides.{nat_tests}
 use Rattle.layout.specs.declared.rect.Rect.{Rect}
 use Rattle.layout.specs.Rects.{in_rect, covered}
 use Rattle.scanline.specs.declared.span.Span.{Span}
-use Rattle.scanline.specs.Spans.{across, any_across, any_still, any_covers, no_span, Solid, Spanned, Leads, ByFirst, ByColumns, ByRows}
-use Rattle.scanline.proofs.Advances.{or-none, or_assoc, or_swap, covers-append}
+use Rattle.scanline.specs.Spans.{across, any_still, any_covers, no_span, Solid, Leads, ByColumns, ByRows}
+use Rattle.scanline.proofs.Advances.{or-none, or_assoc, covers-append}
 
 regroup : (a b c d : Bool) → (a && (b && (c && d))) ≡ ((a && b) && (c && d))
 regroup true b c d = refl

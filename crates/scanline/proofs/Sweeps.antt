@@ -1,14 +1,14 @@
 -- The sweep from row to row. Assumes nothing.
-use Rattle.std.proofs.Common.{◌≡◌, ℕ, suc, ◌+◌, ◌-◌, ◌*◌, ◌<◌, ◌≤◌, Bool, true, false, not, ◌&&◌, ◌||◌, ltb, leb, ◌⊎◌, List, [], ◌∷◌, ◌++◌, length, get_or, take, drop, Some, None, sym, refl, ap, ◌∙◌, subst, inl, inr, ⊎_elim, arith, length-drop, length-take}
-use Rattle.std.proofs.lemmas.Bool.{cases_lt, le-leb, lt-leb, lt-ltb, le-ltb}
+use Rattle.std.proofs.Common.{◌≡◌, ℕ, suc, ◌+◌, ◌*◌, ◌<◌, ◌≤◌, Bool, true, false, ◌&&◌, ◌||◌, List, [], ◌∷◌, length, get_or, take, drop, Some, None, sym, refl, ap, ◌∙◌, inl, inr, ⊎_elim, arith, length-drop, length-take}
+use Rattle.std.proofs.lemmas.Bool.{cases_lt, lt-leb, lt-ltb}
 use Rattle.scanline.specs.Lines.{inside}
 use Rattle.scanline.specs.declared.band.Band.{Band}
-use Rattle.scanline.specs.Bands.{edges, line_at, covers, Canonical, lastLine, Added}
+use Rattle.scanline.specs.Bands.{covers, Canonical, lastLine, Added}
 use Rattle.scanline.specs.declared.span.Span.{Span}
-use Rattle.scanline.specs.Spans.{across, any_across, any_still, any_covers, no_span, ByColumns, ByRows, alive, Last, Advanced, next_edge}
+use Rattle.scanline.specs.Spans.{across, any_across, any_still, any_covers, no_span, ByColumns, ByRows, Last, Advanced, next_edge}
 use Rattle.scanline.proofs.Rows.{Canon, canon_canonical, line-late, topped}
 use Rattle.scanline.proofs.Advances.{Next, next-is, no_next, or-none, or_assoc, alive-most, alive-short}
-use Rattle.scanline.proofs.Spannings.{Split, split_at}
+use Rattle.scanline.proofs.Spannings.{Split}
 
 -- spans that last to row p: in an earlier row they all show
 still-shows : (p : ℕ) (ss : List Span) (x y : ℕ) → Last p ss → y < p → any_still ss x y ≡ any_across ss x

@@ -1,12 +1,12 @@
 -- The line of all columns of spans, by a walk over spans in the order of their columns. Assumes nothing.
-use Rattle.std.proofs.Common.{◌≡◌, ℕ, suc, ◌+◌, ◌<◌, ◌≤◌, max, Bool, true, false, not, ◌&&◌, ◌||◌, ltb, leb, List, [], ◌∷◌, ◌++◌, length, get_or, drop, sym, refl, ap, ◌∙◌, subst, ⊎_elim, append_assoc, arith}
+use Rattle.std.proofs.Common.{◌≡◌, ℕ, suc, ◌+◌, ◌<◌, ◌≤◌, max, Bool, true, false, ◌&&◌, ◌||◌, ltb, leb, List, [], ◌∷◌, ◌++◌, length, get_or, drop, sym, refl, ◌∙◌, subst, ⊎_elim, arith}
 use Rattle.std.proofs.lemmas.List.{drop_more, drop_all}
 use Rattle.std.proofs.lemmas.Bool.{cases_lt, le-leb, lt-leb, lt-ltb, le-ltb}
 use Rattle.std.proofs.lemmas.Bool.Decides.{nat_tests}
-use Rattle.scanline.specs.Lines.{differ, inside, Sorted}
+use Rattle.scanline.specs.Lines.{differ, inside}
 use Rattle.scanline.specs.declared.span.Span.{Span}
 use Rattle.scanline.specs.Spans.{across, any_across, ByColumns, Union}
-use Rattle.scanline.proofs.Merge.{From, from-rises, Between, between-from, between-push, between_more, inside-push}
+use Rattle.scanline.proofs.Merge.{from-rises, Between, between-from, between-push, between_more, inside-push}
 
 -- the interval from `from` up to `to` is open, what is before it is written, and `left` is to come
 pub record Uniting (spans : List Span) (out : List ℕ) (from to : ℕ) (left : List Span) : Type 0 where

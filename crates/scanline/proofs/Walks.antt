@@ -1,8 +1,8 @@
 -- A walk over a line's edges, and the complement. Assumes nothing.
-use Rattle.std.proofs.Common.{◌≡◌, ℕ, suc, ◌+◌, ◌<◌, ◌≤◌, Bool, true, false, not, eqb, leb, List, [], ◌∷◌, ◌++◌, length, get_or, drop, sym, refl, ap, ◌∙◌, subst, ⊎_elim, arith}
+use Rattle.std.proofs.Common.{◌≡◌, ℕ, suc, ◌+◌, ◌<◌, ◌≤◌, Bool, true, false, not, List, [], ◌∷◌, length, get_or, drop, sym, refl, ◌∙◌, ⊎_elim, arith}
 use Rattle.std.proofs.lemmas.List.{drop_more, drop_all}
-use Rattle.std.proofs.lemmas.Bool.{cases_eq, eq-eqb, ne_eqb, le-leb, lt-leb}
-use Rattle.scanline.specs.Lines.{differ, inside, rises, Sorted, toggled}
+use Rattle.std.proofs.lemmas.Bool.{cases_eq, eq-eqb, ne_eqb, le-leb}
+use Rattle.scanline.specs.Lines.{differ, inside, Sorted, toggled}
 use Rattle.scanline.proofs.Merge.{From, rises-from, from-rises, from_less, inside-before, differ-false, false_differ, differ-assoc}
 
 -- the first i edges of es are at or before x, and tell `within`

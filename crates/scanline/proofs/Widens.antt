@@ -1,7 +1,7 @@
 -- A line widened to the right, by a model of the walk. Assumes nothing.
-use Rattle.std.proofs.Common.{◌≡◌, ℕ, suc, ◌+◌, ◌-◌, ◌^◌, ◌<◌, ◌≤◌, Bool, true, false, cond, not, leb, ◌⊎◌, List, [], ◌∷◌, ◌++◌, length, get_or, drop, Decides, sym, refl, ap, ◌∙◌, subst, inl, inr, ⊎_elim, append_assoc, append-nil, arith}
-use Rattle.std.proofs.lemmas.Bool.{cases_lt, le-leb, lt-leb, true≢false, false≢true, cases_Bool}
-use Rattle.scanline.specs.Lines.{differ, inside, rises, Sorted, Near, Room, Widened, reached}
+use Rattle.std.proofs.Common.{◌≡◌, ℕ, suc, ◌+◌, ◌-◌, ◌^◌, ◌<◌, ◌≤◌, Bool, true, false, cond, not, leb, List, [], ◌∷◌, ◌++◌, length, get_or, drop, Decides, sym, refl, ap, ◌∙◌, subst, inl, inr, ⊎_elim, append_assoc, arith}
+use Rattle.std.proofs.lemmas.Bool.{cases_lt, le-leb, lt-leb, false≢true}
+use Rattle.scanline.specs.Lines.{differ, inside, Sorted, Near, Widened, reached}
 use Rattle.scanline.proofs.Merge.{From, rises-from, from-rises, from_less, inside-before, differ-false, false_differ, differ-assoc}
 use Rattle.scanline.proofs.Walks.{true_differ, not-not}
 

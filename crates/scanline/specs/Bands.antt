@@ -1,5 +1,5 @@
 -- Bands of rows: what a list of them covers, and when it is in normal form. Assumes nothing.
-use Rattle.std.specs.Prelude.{◌≡◌, ℕ, suc, Bool, true, false, cond, not, ◌&&◌, ◌⊎◌, List, [], ◌∷◌, ◌++◌, ◌≢◌, nat_le}
+use Rattle.std.specs.Prelude.{◌≡◌, ℕ, suc, Bool, true, cond, not, ◌&&◌, ◌⊎◌, List, [], ◌∷◌, ◌++◌, ◌≢◌, nat_le}
 use Rattle.std.specs.Str.{bytes_eq}
 use Rattle.scanline.specs.Lines.{inside}
 use Rattle.scanline.specs.Edges.{edges_of}

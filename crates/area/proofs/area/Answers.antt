@@ -1,4 +1,4 @@
-use Rattle.std.proofs.Common.{◌≡◌, vec_items, sym, subst}
+use Rattle.std.proofs.Common.{vec_items, subst}
 use Rattle.area.specs.Areas.{Sums, area_of}
 use Rattle.area.proofs.Areas.{counted}
 use Rattle.area.proofs.area.Goals as goal

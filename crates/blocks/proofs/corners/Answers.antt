@@ -1,4 +1,3 @@
-use Rattle.std.proofs.Common.{◌+◌}
 use Rattle.blocks.proofs.Dilations.{settled_not}
 use Rattle.blocks.proofs.Corner.{corner}
 use Rattle.blocks.proofs.corners.Goals as goal

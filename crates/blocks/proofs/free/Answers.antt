@@ -1,4 +1,4 @@
-use Rattle.std.proofs.Common.{◌≡◌, ℕ, suc, ◌-◌, ◌*◌, vec_items, subst, arith}
+use Rattle.std.proofs.Common.{◌≡◌, suc, ◌-◌, ◌*◌, vec_items, subst, arith}
 use Rattle.scanline.specs.Bands.{covers}
 use Rattle.blocks.specs.Blocks.{free_block}
 use Rattle.blocks.specs.Settled.{Exactly}

@@ -1,5 +1,5 @@
-use Rattle.std.proofs.Common.{◌≡◌, vec_items, sym, refl, ap, ◌∙◌, subst, arith}
-use Rattle.scanline.proofs.Merge.{Sofar, start, finish, kept, pushed, same, first-none, first-less}
+use Rattle.std.proofs.Common.{sym}
+use Rattle.scanline.proofs.Merge.{start, finish, kept, pushed, same, first-none, first-less}
 use Rattle.scanline.proofs.combine_lines.Goals as goal
 
 pub loop-edge-init : goal.loop-edge-init

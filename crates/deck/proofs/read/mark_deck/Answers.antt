@@ -1,4 +1,4 @@
-use Rattle.std.proofs.Common.{◌≡◌, length, take, vec_items, sym, ◌∙◌, subst, arith}
+use Rattle.std.proofs.Common.{take, vec_items, sym, ◌∙◌, subst}
 use Rattle.std.proofs.lemmas.List.{take_all}
 use Rattle.std.proofs.ByRecursion.{All-get_or, All-weaker, All-more}
 use Rattle.rules.specs.Values.{Sound}

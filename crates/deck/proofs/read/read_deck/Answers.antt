@@ -1,13 +1,10 @@
-use Rattle.std.proofs.Common.{◌≡◌, ℕ, ◌+◌, ◌<◌, List, [], ◌∷◌, ◌++◌, map, length, get_or, take, vec_items, sym, refl, ap, ◌∙◌, subst, arith}
+use Rattle.std.proofs.Common.{◌≡◌, ◌+◌, ◌<◌, [], ◌∷◌, ◌++◌, map, length, get_or, take, vec_items, sym, ap, ◌∙◌, subst}
 use lib.ListN.{length-map}
-use Rattle.std.specs.List.{AllByRecursion}
 use Rattle.std.proofs.lemmas.List.{take_all, take-map, get_or-map}
-use Rattle.rules.specs.Tests.{RuleRead}
-use Rattle.rules.specs.Numbers.{RuleTurned}
 use Rattle.rules.proofs.Linkings.{taken_is}
 use Rattle.rule_text.specs.Operators.{rule_number}
-use Rattle.rule_text.specs.Rules.{Rule, rule_of}
-use Rattle.deck.specs.Decks.{Each, Takes, Turns}
+use Rattle.rule_text.specs.Rules.{rule_of}
+use Rattle.deck.specs.Decks.{Each, Takes}
 use Rattle.deck.specs.Readings.{Held}
 use Rattle.deck.proofs.Sides.{each_more, each_left}
 use Rattle.deck.proofs.read.read_deck.Goals as goal

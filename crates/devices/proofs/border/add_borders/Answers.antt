@@ -1,5 +1,5 @@
 -- Why `add_borders` meets its contract.
-use Rattle.std.proofs.Common.{◌≡◌, length, vec_items, sym, refl, subst, arith}
+use Rattle.std.proofs.Common.{◌≡◌, length, vec_items, sym, subst, arith}
 use Rattle.std.proofs.ByRecursion.{All-get_or}
 use Rattle.tiles.specs.Tiles.{none}
 use Rattle.devices.specs.Borders.{Near}

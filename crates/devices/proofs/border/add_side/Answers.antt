@@ -1,5 +1,5 @@
 -- Why `add_side` meets its contract.
-use Rattle.std.proofs.Common.{◌≡◌, length, vec_items, sym, subst}
+use Rattle.std.proofs.Common.{length, vec_items, sym, subst}
 use Rattle.std.specs.List.{AllByRecursion}
 use Rattle.devices.specs.Borders.{Near}
 use Rattle.devices.specs.Crossings.{Adding}

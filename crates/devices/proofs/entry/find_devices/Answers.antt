@@ -1,8 +1,7 @@
 -- Why `find_devices` meets its contract.
-use Rattle.std.proofs.Common.{◌≡◌, ◌/◌, ◌^◌, ◌<◌, ◌≤◌, length, vec_items, sym, refl, ap, ◌∙◌, subst, arith}
-use Rattle.std.specs.List.{AllByRecursion}
+use Rattle.std.proofs.Common.{◌≡◌, ◌/◌, ◌≤◌, length, vec_items, sym, ap, ◌∙◌, subst, arith}
 use Rattle.std.proofs.lemmas.Result.{err_from_is_err_and}
-use Rattle.layout.specs.Rects.{Within, covered}
+use Rattle.layout.specs.Rects.{covered}
 use Rattle.nets.specs.Processes.{technology_of}
 use Rattle.devices.specs.Findings.{ReadInto}
 use Rattle.devices.specs.Readings.{ComesTo, Written}

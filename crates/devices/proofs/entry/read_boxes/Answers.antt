@@ -1,5 +1,5 @@
 -- Why `read_boxes` meets its contract.
-use Rattle.std.proofs.Common.{◌≡◌, ℕ, ◌<◌, length, vec_items, vec_len, sym, ◌∙◌, subst}
+use Rattle.std.proofs.Common.{◌≡◌, ◌<◌, length, vec_items, sym, ◌∙◌, subst}
 use Rattle.std.specs.List.{AllByRecursion}
 use Rattle.layout.specs.Rects.{covered}
 use Rattle.nets.specs.Processes.{technology_of}

@@ -1,10 +1,7 @@
 -- Why `read_devices` meets its contract.
-use Rattle.std.proofs.Common.{◌≡◌, ℕ, ◌+◌, ◌<◌, [], ◌∷◌, ◌++◌, length, get_or, vec_items, sym, ap, ◌∙◌, subst, arith}
+use Rattle.std.proofs.Common.{◌≡◌, ◌+◌, ◌<◌, [], ◌∷◌, ◌++◌, length, vec_items, sym, ap, ◌∙◌, subst, arith}
 use Rattle.std.proofs.lemmas.List.{get_or_read}
-use Rattle.layout.specs.Layout.{Drawing}
-use Rattle.tiles.specs.declared.tile.Tile.{Tile}
 use Rattle.tiles.specs.Tiles.{none, tile_at}
-use Rattle.nets.specs.Nets.{Technology}
 use Rattle.devices.specs.Channels.{spot_of}
 use Rattle.devices.specs.Ends.{OddAt}
 use Rattle.devices.specs.Pieces.{root_of_lem}

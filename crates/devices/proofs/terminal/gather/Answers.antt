@@ -1,5 +1,5 @@
 -- Why `gather` meets its contract.
-use Rattle.std.proofs.Common.{◌≡◌, ◌<◌, length, get_or, vec_items, sym, refl, ap, ◌∙◌, subst, arith}
+use Rattle.std.proofs.Common.{◌≡◌, ◌<◌, length, get_or, vec_items, ap, ◌∙◌, subst, arith}
 use Rattle.std.proofs.lemmas.List.{length-replicate, length-set, take_all, get_or_read, get_or_default}
 use Rattle.std.proofs.ByRecursion.{All-get_or}
 use Rattle.devices.specs.declared.border.Border.{Border}

@@ -1,5 +1,5 @@
 -- What `check_layout` needs beyond what the search finds.
-use Rattle.std.proofs.Common.{◌≡◌, ℕ, ◌+◌, ◌-◌, ◌/◌, length, get_or, refl, ap, subst, arith}
+use Rattle.std.proofs.Common.{◌≡◌, ℕ, ◌+◌, ◌-◌, ◌/◌, length, get_or, refl, subst, arith}
 use Rattle.layout.specs.Numbers.{sixes, boxes}
 use Rattle.layout.specs.Pieces.{piece}
 use Rattle.layout.proofs.Checks.{shaped, sound_from, refused_1, refused-2a, refused-2b, refused-3, refused-0}

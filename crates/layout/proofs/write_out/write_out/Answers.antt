@@ -1,7 +1,7 @@
 -- What `write_out` needs beyond what the search finds.
 use Rattle.std.proofs.Common.{◌≡◌, ◌+◌, ◌-◌, ◌/◌, ◌^◌, List, ◌++◌, length, vec_items, sym, ap, ◌∙◌, subst, arith}
 use Rattle.std.specs.List.{AllByRecursion}
-use Rattle.layout.specs.Numbers.{sixes, boxes}
+use Rattle.layout.specs.Numbers.{sixes}
 use Rattle.layout.specs.Pieces.{piece}
 use Rattle.layout.specs.Rects.{rects, covered, Within}
 use Rattle.layout.specs.declared.rect.Rect.{Rect}

@@ -1,4 +1,4 @@
-use Rattle.std.proofs.Common.{◌≡◌, vec_items, sym}
+use Rattle.std.proofs.Common.{sym}
 use Rattle.scanline.specs.Edges.{edges_of}
 use Rattle.region.proofs.Turns.{start, finish, added, first-none, first-less}
 use Rattle.region.proofs.merge.merge_bands.Goals as goal

@@ -1,7 +1,7 @@
-use Rattle.std.proofs.Common.{◌≡◌, ◌-◌, List, [], vec_items, sym, ap, ◌∙◌, subst}
+use Rattle.std.proofs.Common.{◌-◌, vec_items, ap, ◌∙◌, subst}
 use Rattle.scanline.specs.Edges.{edges_of}
 use Rattle.scanline.specs.Bands.{Added}
-use Rattle.region.proofs.Moves.{Rising, rise_none, rise-top, rise-more, rise_all}
+use Rattle.region.proofs.Moves.{rise_none, rise-top, rise-more, rise_all}
 use Rattle.region.proofs.shift.shift_bands_up.Goals as goal
 use Rattle.region.proofs.shift.shift_bands_up.Goals.{then-band-by, else-band-by}
 

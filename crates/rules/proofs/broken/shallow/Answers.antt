@@ -1,4 +1,4 @@
-use Rattle.std.proofs.Common.{◌≡◌, not, ◌&&◌, leb, vec_items, sym, ap, ◌∙◌}
+use Rattle.std.proofs.Common.{not, ◌&&◌, leb, vec_items, ap, ◌∙◌}
 use Rattle.scanline.specs.Bands.{covers}
 use Rattle.blocks.proofs.Dilations.{settled_not}
 use Rattle.rules.proofs.Surroundings.{surrounded_is}

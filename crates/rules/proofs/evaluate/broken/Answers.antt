@@ -1,8 +1,8 @@
-use Rattle.std.proofs.Common.{◌≡◌, ℕ, ◌-◌, ◌<◌, ◌≤◌, length, get_or, vec_items, vec_len, sym, refl, ap, ◌∙◌, subst, arith}
+use Rattle.std.proofs.Common.{◌≡◌, ℕ, ◌-◌, ◌<◌, ◌≤◌, vec_items, sym, ap, ◌∙◌, subst, arith}
 use Rattle.scanline.specs.Bands.{covers}
 use Rattle.rules.specs.Rules.{breaks, squares}
 use Rattle.rules.specs.Tests.{test_rule, Mild, needs}
-use Rattle.rules.specs.Values.{value, held_rule}
+use Rattle.rules.specs.Values.{value}
 use Rattle.rules.proofs.Evaluations.{wide_is, apart-is, inside_is, never-is}
 use Rattle.rules.proofs.Marks.{needs-some}
 use Rattle.rules.proofs.evaluate.broken.Goals as goal

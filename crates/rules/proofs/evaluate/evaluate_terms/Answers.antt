@@ -1,5 +1,4 @@
-use Rattle.std.proofs.Common.{◌≡◌, ℕ, ◌+◌, ◌<◌, length, get_or, vec_items, vec_len, sym, refl, ap, ◌∙◌, subst, arith}
-use Rattle.region.specs.declared.regions.Region.{Region}
+use Rattle.std.proofs.Common.{◌≡◌, ◌+◌, length, get_or, vec_items, sym, refl, ap, ◌∙◌, subst, arith}
 use Rattle.rules.specs.Terms.{Names}
 use Rattle.rules.specs.Values.{Evaluated, TermDone}
 use Rattle.rules.specs.declared.term.Term.TheVariants.{Layer}

@@ -1,14 +1,11 @@
-use Rattle.std.proofs.Common.{◌≡◌, ◌^◌, vec_items, vec_len, sym, refl, ap, ◌∙◌, subst, inl, inr}
+use Rattle.std.proofs.Common.{◌≡◌, ◌^◌, vec_items, sym, subst}
 use Rattle.std.proofs.lemmas.Result.{err_from_is_err_and}
-use Rattle.layout.specs.Layout.{Drawing}
 use Rattle.layout.specs.Numbers.{layout_in}
 use Rattle.layout.specs.Rects.{covered}
 use Rattle.region.specs.Firsts.{FirstOf}
-use Rattle.rules.specs.Rules as rules
 use Rattle.rules.specs.Rules.{breaks}
-use Rattle.rules.specs.Numbers.{rule_in}
-use Rattle.rules.specs.Values.{held_rule, Sound}
-use Rattle.rules.proofs.Linkings.{sound_is, rule-is, taken_is, shown_is, same-drawing}
+use Rattle.rules.specs.Values.{held_rule}
+use Rattle.rules.proofs.Linkings.{rule-is, taken_is, shown_is, same-drawing}
 use Rattle.rules.proofs.judges.first_broken.Goals as goal
 
 pub returns-in_err-layers : goal.returns-in_err-layers

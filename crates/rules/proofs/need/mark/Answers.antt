@@ -1,4 +1,4 @@
-use Rattle.std.proofs.Common.{◌≡◌, ◌⊎◌, sym, subst, inl, inr}
+use Rattle.std.proofs.Common.{sym, subst, inl, inr}
 use Rattle.rules.specs.Terms.{Names}
 use Rattle.rules.specs.Values.{Over}
 use Rattle.rules.proofs.Marks.{marked_one, marked_two}

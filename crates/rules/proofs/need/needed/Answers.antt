@@ -1,4 +1,4 @@
-use Rattle.std.proofs.Common.{◌≡◌, ℕ, suc, ◌-◌, ◌<◌, ◌≤◌, Bool, true, false, length, get_or, replicate, sym, refl, ap, ◌∙◌, subst, arith, rules}
+use Rattle.std.proofs.Common.{◌≡◌, suc, ◌-◌, false, replicate, refl, subst, arith}
 use Rattle.rules.proofs.Marks.{Marking, mark-needed, mark-not, mark-all, mark-last, mark-both}
 use Rattle.rules.proofs.need.needed.Goals as goal
 use Rattle.rules.proofs.need.needed.Goals.{in-Inside, in_default}

@@ -1,5 +1,5 @@
-use Rattle.std.proofs.Common.{◌≡◌, ℕ, ◌*◌, ◌/◌, ◌≤◌, length, Some, None, refl, ap, ◌∙◌, arith, rules}
-use Rattle.rules.specs.Numbers.{least_regions, or_else, further, number_fault, regions_fault}
+use Rattle.std.proofs.Common.{◌≡◌, ◌*◌, ◌/◌, ◌≤◌, length, ap, ◌∙◌, rules}
+use Rattle.rules.specs.Numbers.{least_regions, or_else, further, number_fault}
 use Rattle.rules.proofs.read.read_rule.Goals as goal
 
 pub returns-in-Err : goal.returns-in-Err

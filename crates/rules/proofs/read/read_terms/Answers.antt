@@ -1,4 +1,4 @@
-use Rattle.std.proofs.Common.{◌≡◌, ◌<◌, length, None, refl, ◌∙◌, subst, arith, length-set}
+use Rattle.std.proofs.Common.{◌≡◌, ◌<◌, length, None, refl, subst, arith, length-set}
 use Rattle.rules.specs.Numbers.{regions_fault}
 use Rattle.rules.specs.Tests.{TermsRead}
 use Rattle.rules.proofs.Readings.{no_fault, fault_more, fault_first, terms-more}

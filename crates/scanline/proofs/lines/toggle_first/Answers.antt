@@ -1,7 +1,6 @@
-use Rattle.std.proofs.Common.{◌≡◌, ◌<◌, List, [], length, get_or, vec_items, ◌∙◌, rules}
+use Rattle.std.proofs.Common.{◌≡◌, ◌<◌, length, get_or, ◌∙◌, rules}
 use Rattle.std.proofs.lemmas.List.{take_rest}
 use Rattle.std.proofs.lemmas.Result.{IfOk-weaker}
-use Rattle.scanline.specs.Lines.{toggled}
 use Rattle.scanline.proofs.Walks.{toggled-zero}
 use Rattle.scanline.proofs.lines.toggle_first.Goals as goal
 

@@ -1,5 +1,4 @@
-use Rattle.std.proofs.Common.{◌≡◌, vec_items, sym}
-use Rattle.scanline.proofs.Advances.{Advancing, advance_none, advance-more, advance_all, picked_less}
+use Rattle.scanline.proofs.Advances.{advance_none, advance-more, advance_all, picked_less}
 use Rattle.scanline.proofs.live.advance.Goals as goal
 
 pub loop-span-init : goal.loop-span-init

@@ -1,6 +1,6 @@
-use Rattle.std.proofs.Common.{◌≡◌, ℕ, ◌<◌, ◌≤◌, ◌⊎◌, List, [], ◌∷◌, length, get_or, drop, sym, refl, ◌∙◌, inl, inr, arith, rules}
+use Rattle.std.proofs.Common.{◌≡◌, ◌<◌, length, get_or, inl, inr, arith, rules}
 use Rattle.std.proofs.lemmas.List.{take_rest, nil_from_length}
-use Rattle.scanline.specs.Spans.{no_span, ByFirst}
+use Rattle.scanline.specs.Spans.{no_span}
 use Rattle.scanline.proofs.Advances.{pick-live, by_first}
 use Rattle.scanline.proofs.live.leftmost.Goals as goal
 

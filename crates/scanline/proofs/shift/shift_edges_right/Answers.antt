@@ -1,4 +1,3 @@
-use Rattle.std.proofs.Common.{vec_items}
 use Rattle.scanline.proofs.Slides.{right-none, right-more, right_far, right-all}
 use Rattle.scanline.proofs.shift.shift_edges_right.Goals as goal
 

@@ -1,9 +1,8 @@
 use Rattle.std.proofs.cmp.Tests.{ltb_from_iff}
-use Rattle.std.proofs.Common.{◌≡◌, ℕ, true, List, [], ◌∷◌, ◌++◌, Some, None, vec_items, Option, sym, ap, ◌∙◌, inl, inr, arith}
+use Rattle.std.proofs.Common.{◌≡◌, true, vec_items, sym, ap, ◌∙◌, inl, arith}
 use Rattle.std.proofs.lemmas.Bool.{lt-ltb}
-use Rattle.std.specs.Option.{option_to_list}
 use Rattle.scanline.specs.Lines.{ends_in_lem}
-use Rattle.scanline.proofs.Slides.{ends-push, ends_some, popped}
+use Rattle.scanline.proofs.Slides.{ends_some, popped}
 use Rattle.scanline.proofs.shift.toggle.Goals as goal
 
 pub returns-then-ends_in : goal.returns-then-ends_in

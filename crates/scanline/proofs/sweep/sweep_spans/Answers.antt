@@ -1,8 +1,8 @@
-use Rattle.std.proofs.Common.{◌≡◌, ℕ, ◌-◌, length, take, drop, Some, None, vec_items, sym, ap, ◌∙◌, subst}
+use Rattle.std.proofs.Common.{◌≡◌, Some, None, vec_items, sym}
 use Rattle.scanline.specs.Edges.{edges_of}
-use Rattle.scanline.specs.Spans.{next_edge, Advanced}
-use Rattle.scanline.proofs.Spannings.{Split, split_at}
-use Rattle.scanline.proofs.Sweeps.{Sweeping, sweep_none, sweep_all, swept, swept-less, begun}
+use Rattle.scanline.specs.Spans.{next_edge}
+use Rattle.scanline.proofs.Spannings.{split_at}
+use Rattle.scanline.proofs.Sweeps.{sweep_none, sweep_all, swept, swept-less, begun}
 use Rattle.scanline.proofs.sweep.sweep_spans.Goals as goal
 
 pub loop-row-init : goal.loop-row-init

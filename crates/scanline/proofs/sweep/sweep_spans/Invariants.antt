@@ -1,4 +1,4 @@
-use Rattle.std.proofs.Common.{◌+◌, ◌*◌, length, vec_items, vec_len}
+use Rattle.std.proofs.Common.{◌+◌, ◌*◌, length, vec_items}
 use Rattle.scanline.proofs.Sweeps.{Sweeping}
 use Rattle.scanline.proofs.sweep.sweep_spans.Given as goal
 

@@ -1,6 +1,6 @@
-use Rattle.std.proofs.Common.{◌≡◌, ◌<◌, List, [], length, drop, vec_items, sym, rules}
+use Rattle.std.proofs.Common.{◌≡◌, ◌<◌, length, rules}
 use Rattle.std.proofs.lemmas.List.{take_rest, nil_from_length}
-use Rattle.scanline.proofs.Unions.{Uniting, unite_none, unite_start, unite_at, unite-gap, unite-join, unite_end}
+use Rattle.scanline.proofs.Unions.{unite_none, unite_start, unite_at, unite-gap, unite-join, unite_end}
 use Rattle.scanline.proofs.union.union_edges.Goals as goal
 use Rattle.scanline.proofs.union.union_edges.Goals.{then-to-span+in_ok-push+in_ok-push-2, else-to-span}
 

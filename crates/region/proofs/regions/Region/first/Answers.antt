@@ -1,5 +1,5 @@
 use Rattle.std.proofs.Common.{◌≡◌, ◌<◌, length, get_or, vec_items, sym, ap, ◌∙◌, subst, rules}
-use Rattle.scanline.specs.Bands.{edges, covers}
+use Rattle.scanline.specs.Bands.{covers}
 use Rattle.region.specs.Firsts.{First}
 use Rattle.region.proofs.Looks.{first-none, first-filled, first_some}
 use Rattle.region.proofs.regions.Region.first.Goals as goal

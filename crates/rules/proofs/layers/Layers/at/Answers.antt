@@ -1,4 +1,4 @@
-use Rattle.std.proofs.Common.{◌≡◌, vec_items, sym, ap, arith}
+use Rattle.std.proofs.Common.{vec_items, sym, ap, arith}
 use Rattle.std.proofs.lemmas.List.{get_or_past}
 use Rattle.scanline.specs.Bands.{covers}
 use Rattle.rules.proofs.layers.Layers.at.Goals as goal

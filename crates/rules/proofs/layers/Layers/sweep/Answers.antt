@@ -1,9 +1,8 @@
-use Rattle.std.proofs.Common.{◌≡◌, ℕ, ◌+◌, ◌<◌, ◌≤◌, true, false, ◌⊎◌, length, get_or, vec_items, vec_len, sym, refl, ap, ◌∙◌, subst, inl, inr, arith}
+use Rattle.std.proofs.Common.{◌≡◌, ◌+◌, ◌<◌, true, false, length, get_or, vec_items, vec_len, sym, refl, ap, ◌∙◌, subst, inl, inr, arith}
 use Rattle.std.proofs.lemmas.List.{get_or_past}
 use Rattle.std.proofs.lemmas.Bool.{cases_lt, cases_eq, false≢true}
 use Rattle.layout.specs.Rects.{covered}
 use Rattle.scanline.specs.Bands.{covers}
-use Rattle.region.specs.declared.regions.Region.{Region}
 use Rattle.rules.proofs.layers.Layers.sweep.Goals as goal
 
 pub loop-layer-init : goal.loop-layer-init

@@ -1,5 +1,5 @@
-use Rattle.std.proofs.Common.{vec_items, ap, ◌∙◌}
-use Rattle.scanline.specs.Lines.{inside, Sorted, toggled}
+use Rattle.std.proofs.Common.{vec_items}
+use Rattle.scanline.specs.Lines.{Sorted}
 use Rattle.scanline.proofs.Walks.{toggled-inside, toggled-sorted}
 use Rattle.scanline.proofs.lines.Line.complement.Goals as goal
 
