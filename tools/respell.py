@@ -2,7 +2,7 @@
 """Brings this repository's own definitions and lemmas to today's spelling, once, after port.py.
 
 Types and facts are in camel case, other definitions in snake case. In a lemma's name a dash stays after the name
-of the definition that it is about. One that would have a function's name ends in _lem. Names of src/, goals and files keep their spelling.
+of the definition that it is about. Names of src/, goals and files keep their spelling.
 
 usage: python3 tools/respell.py [--dry]      at the top of the repository
 """
@@ -132,14 +132,6 @@ def mapping():
                 break
         else:
             new[name] = snake(name)
-    named = set()
-    for top, path in texts():
-        if top == "src":
-            with open(path, encoding="utf-8") as f:
-                named.update(re.findall(r"\bfn (\w+)", f.read()))
-    for name, turned in new.items():
-        if turned in named and name not in fields:
-            new[name] = turned + "_lem"
     return {a: b for a, b in new.items() if a != b}, fields
 
 

@@ -6,7 +6,6 @@ ghost use Rattle.std.specs.Prelude.{◌^◌, ◌<◌, IfSome};
 ghost use Rattle.std.specs.List.{AllByRecursion};
 ghost use Rattle.layout.specs.Rects.{Within};
 
-use anyhow::anyhow;
 use layout::rect::Rect;
 use nets::join::connect;
 use nets::process::Process;
@@ -15,6 +14,7 @@ use region::regions::Region;
 use rules::broken::{close, narrow, shallow};
 use std::alloc::{AllocError, Global};
 use std::io::{BufRead, BufReader};
+use std::process::ExitCode;
 use std::time::Instant;
 
 // Coordinates and sizes up to 2^39: far beyond any mask, and no sum of two passes 2^40.
@@ -149,7 +149,7 @@ fn time_rules(rt: &HostRuntime, boxes: &[Rect]) -> anyhow::Result<()>
     Ok(())
 }
 
-// AllByRecursion layers carry, and nothing joins them.
+// All layers carry, and nothing joins them.
 fn all_carry(heap: Global) -> Result<Process, AllocError> {
     let carries = vec![in heap; true; LAYERS as usize]?;
     Ok(Process {
@@ -175,14 +175,14 @@ fn time_nets(rt: &HostRuntime, boxes: &[Rect]) -> anyhow::Result<()>
     Ok(())
 }
 
-fn main(rt: HostRuntime) -> anyhow::Result<()> {
+fn main(rt: HostRuntime) -> anyhow::Result<ExitCode> {
     let mut boxes = Vec::new(rt.alloc());
     let start = Instant::now(&rt)?;
     for line in BufReader::new(rt.alloc(), rt.stdin())?.lines(rt.alloc()) {
         let text = line?;
         if !add_box(&mut boxes, text.as_str())? {
             eprintln!(rt; "bench: each line is LAYER X Y ACROSS DOWN, in numbers up to {FAR}")?;
-            return Err(anyhow!("no box"));
+            return Ok(ExitCode::FAILURE);
         }
     }
     let micros = start.elapsed(&rt)?.as_micros();
@@ -190,5 +190,6 @@ fn main(rt: HostRuntime) -> anyhow::Result<()> {
     println!(rt; "{count} boxes")?;
     eprintln!(rt; "read: {micros} us")?;
     time_rules(&rt, boxes.as_slice())?;
-    time_nets(&rt, boxes.as_slice())
+    time_nets(&rt, boxes.as_slice())?;
+    Ok(ExitCode::SUCCESS)
 }

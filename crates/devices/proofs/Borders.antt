@@ -19,7 +19,7 @@ use Rattle.devices.specs.declared.direction.Direction.{Direction}
 use Rattle.devices.specs.declared.direction.Direction.TheVariants.{Right, Left, Below, Above}
 use Rattle.devices.specs.Channels.{channel, spot_of, Under, Earlier}
 use Rattle.devices.specs.Ends.{Side}
-use Rattle.devices.specs.Pieces.{root_of_lem, gated, Gated, Wired}
+use Rattle.devices.specs.Pieces.{root_of, gated, Gated, Wired}
 use Rattle.devices.specs.Borders.{Near, channel_x, channel_y, wire_x, wire_y, meets, Meeting, BorderAt, Added, Flanked, Fringed}
 use Rattle.devices.specs.Readings.{corner, Judged}
 use Rattle.devices.proofs.Channels.{plain, on-plain, way-under, unders-on, unders-back, under-ends, crossed-layer}
@@ -230,13 +230,13 @@ module _ (k : Technology) (d : Drawing) where
 module _ (k : Technology) (d : Drawing) (cb wb : List Band) (cs : List Tile) (hs : List ℕ) (ws : List Tile) (ns : List ℕ) (sc : Shows cb (gated k d)) (sw : Shows wb (wire k d k.crossed)) (g : Gated k d cs hs) (w : Wired k d ws ns)
     (bs : List Border) (fr : Fringed k.crossed cb wb cs hs ws ns bs) where
   -- the spot of a border is on a tile of wire
-  border-has : (b : Border) → In bs b → (j : ℕ) × Has ws j (border-spot k b) × (b.net ≡ root_of_lem ns j)
+  border-has : (b : Border) → In bs b → (j : ℕ) × Has ws j (border-spot k b) × (b.net ≡ root_of ns j)
   border-has b m =
       let p = fr.sound b m in
       let q = p.3 in
       (q.other, subst (λ s. Has ws q.other s) (λ i. spot_of k (sym q.across i) (sym q.down i)) q.wired, q.net)
 
-  module _ (i : ℕ) (within : i < length cs) (own : root_of_lem hs i ≡ i) where
+  module _ (i : ℕ) (within : i < length cs) (own : root_of hs i ≡ i) where
     border-side : (b : Border) → In bs b → b.channel ≡ i → Side k d (corner k cs i) (border-spot k b)
     border-side b m e =
         let p = fr.sound b m in

@@ -11,7 +11,7 @@ use Rattle.nets.proofs.Ways.{ways_on, ways_back, way-starts, way-ends}
 use Rattle.nets.proofs.Joins.{connecting_none, connected}
 use Rattle.devices.specs.Channels.{channel, Under, stays as rests, along as goes}
 use Rattle.devices.specs.Ends.{Side, Ends}
-use Rattle.devices.specs.Pieces.{root_of_lem, gated, Linked, Gated}
+use Rattle.devices.specs.Pieces.{root_of, gated, Linked, Gated}
 
 -- all layers carry, nothing joins, and no gate crosses
 abbrev pub plain : Technology → Technology
@@ -78,7 +78,7 @@ module _ (k : Technology) (d : Drawing) where
     pub gated-from : (bs : List Band) (rs : List ℕ) (layer : ℕ) → layer ≡ k.crossed → Shows bs (gated k d) → Linked layer bs ts rs → Gated k d ts rs
     gated-from bs rs layer e shows link =
         let tiled : Tiled (channel k d) ts = record { ordered = link.ordered; holds = linked-holds bs rs layer e shows link } in
-        let named = connected (plain k) (channel k d) ts [] (tiled-plain tiled) (root_of_lem rs) 0 (connecting_none (plain k) (channel k d) ts [] (tiled-plain tiled) (root_of_lem rs) link.grouped) (λ j a b. refl) in
+        let named = connected (plain k) (channel k d) ts [] (tiled-plain tiled) (root_of rs) 0 (connecting_none (plain k) (channel k d) ts [] (tiled-plain tiled) (root_of rs) link.grouped) (λ j a b. refl) in
         record {
           tiled = tiled;
           long = link.long;

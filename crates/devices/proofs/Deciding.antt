@@ -18,7 +18,7 @@ use Rattle.devices.specs.declared.terminal.Terminals.TheVariants.{Isolated, One,
 use Rattle.devices.specs.Channels.{channel, spot_of, Under, stays as rests, along as goes, Earlier}
 use Rattle.devices.specs.Ends.{Side}
 use Rattle.devices.specs.Borders.{channel_x, channel_y, wire_x, wire_y}
-use Rattle.devices.specs.Terminals.{Sums, with_one_lem}
+use Rattle.devices.specs.Terminals.{Sums, with_one}
 use Rattle.devices.specs.Readings.{terminal_spot, Judged}
 use Rattle.devices.specs.Laws.{Device, over, Read, AllRead, Odd, AllOrOdd}
 use Rattle.devices.proofs.Channels.{plain, on-plain, under-way, way-under, under-ends, crossed-layer}
@@ -33,7 +33,7 @@ tally_on : (r : ℕ) (bs cs : List Border) (t : Terminals) → Sums bs r t → (
 tally_on r bs [] t h = (t, subst (λ l. Sums l r t) (sym (append-nil bs)) h)
 tally_on r bs (c ∷ cs) t h =
     let more : (u : Terminals) × Sums (bs ++ c ∷ []) r u = elim (cases_eq c.channel r) [
-      | inl e ↦ (with_one_lem t (terminal_of c), sums-more bs r c e t h)
+      | inl e ↦ (with_one t (terminal_of c), sums-more bs r c e t h)
       | inr n ↦ (t, sums-other bs r c n t h)
     ] in
     let p = tally_on r (bs ++ c ∷ []) cs more.0 more.1 in

@@ -9,7 +9,7 @@ use Rattle.nets.specs.Nets.{Technology, Spot, on}
 use Rattle.nets.specs.Wires.{Has}
 use Rattle.nets.proofs.Wires.{has-wire, wire-place}
 use Rattle.devices.specs.Channels.{channel, Earlier, First}
-use Rattle.devices.specs.Pieces.{root_of_lem, Gated}
+use Rattle.devices.specs.Pieces.{root_of, Gated}
 use Rattle.devices.specs.Readings.{corner}
 use Rattle.devices.proofs.Channels.{plain, on-plain, tiled-plain, crossed-layer, under-ends}
 
@@ -82,7 +82,7 @@ module _ (k : Technology) (d : Drawing) (ts : List Tile) (rs : List ℕ) (g : Ga
       ]
 
   -- the first square of the first tile of a channel is its first
-  pub root-first : (i : ℕ) → i < length ts → root_of_lem rs i ≡ i → First k d (corner k ts i)
+  pub root-first : (i : ℕ) → i < length ts → root_of rs i ≡ i → First k d (corner k ts i)
   root-first i h own = record {
     there = has-channel i (corner k ts i) (corner-has i h);
     first = λ b u e.

@@ -14,12 +14,12 @@ use Rattle.tiles.specs.Cuts.{Cut}
 use Rattle.tiles.specs.Links.{Touch}
 use Rattle.nets.specs.Nets.{Technology, wire}
 use Rattle.nets.specs.Wires.{Tiled, Named}
-use Rattle.devices.specs.Pieces.{root_of_lem, Linked, Wired}
+use Rattle.devices.specs.Pieces.{root_of, Linked, Wired}
 
 -- the first i are in the list
 pub record Rooted (f : ℕ → ℕ) (i : ℕ) (rs : List ℕ) : Type 0 where
   pub long : length rs ≡ i
-  pub each : (j : ℕ) → j < i → root_of_lem rs j ≡ f j
+  pub each : (j : ℕ) → j < i → root_of rs j ≡ f j
 
 pub rooted_none : (f : ℕ → ℕ) (rs : List ℕ) → rs ≡ [] → Rooted f 0 rs
 rooted_none f rs e = record { long = ap length e; each = λ j h. absurd (omega arith) }
@@ -33,7 +33,7 @@ rooted_more f i r rs ss e h old = subst (Rooted f (i + 1)) (sym h) (record {
   ];
 })
 
-pub rooted-all : (g : Groups) (i n : ℕ) (rs : List ℕ) → size g ≡ n → n ≤ i → i ≤ n → Rooted (group g) i rs → (length rs ≡ n) × ((j : ℕ) → root_of_lem rs j ≡ group g j)
+pub rooted-all : (g : Groups) (i n : ℕ) (rs : List ℕ) → size g ≡ n → n ≤ i → i ≤ n → Rooted (group g) i rs → (length rs ≡ n) × ((j : ℕ) → root_of rs j ≡ group g j)
 rooted-all g i n rs e p q all = (
   omega (arith, all.long),
   λ j. elim (cases_lt j i) [
@@ -42,15 +42,15 @@ rooted-all g i n rs e p q all = (
   ],
 )
 
-module _ (g : Groups) (rs : List ℕ) (same : (i : ℕ) → root_of_lem rs i ≡ group g i) where
-  roots-are : group g ≡ root_of_lem rs
+module _ (g : Groups) (rs : List ℕ) (same : (i : ℕ) → root_of rs i ≡ group g i) where
+  roots-are : group g ≡ root_of rs
   roots-are = λ j i. sym (same i) j
 
-  roots-low : (i : ℕ) → root_of_lem rs i ≤ i
+  roots-low : (i : ℕ) → root_of rs i ≤ i
   roots-low i = omega (arith, same i, root-low (vec_items g.parents) g.falls i)
 
-  roots-top : (i : ℕ) → root_of_lem rs (root_of_lem rs i) ≡ root_of_lem rs i
-  roots-top i = ap (root_of_lem rs) (same i) ∙ (same (group g i) ∙ (root-at (vec_items g.parents) (group g i) (root_ends (vec_items g.parents) g.falls i) ∙ sym (same i)))
+  roots-top : (i : ℕ) → root_of rs (root_of rs i) ≡ root_of rs i
+  roots-top i = ap (root_of rs) (same i) ∙ (same (group g i) ∙ (root-at (vec_items g.parents) (group g i) (root_ends (vec_items g.parents) g.falls i) ∙ sym (same i)))
 
   pub linked-from :
       (layer : ℕ) (bs : List Band) (before ts slice : List Tile) → before ≡ [] → Cut layer bs before ts → slice ≡ ts → Grouped (Touch slice) (group g) → length rs ≡ length ts → Linked layer bs ts rs

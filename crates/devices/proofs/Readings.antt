@@ -13,7 +13,7 @@ use Rattle.devices.specs.declared.terminal.Terminals.TheVariants.{Isolated}
 use Rattle.devices.specs.declared.reading.Device.{Device}
 use Rattle.devices.specs.Channels.{spot_of, Under, Earlier}
 use Rattle.devices.specs.Ends.{DeviceAt, OddAt}
-use Rattle.devices.specs.Pieces.{root_of_lem}
+use Rattle.devices.specs.Pieces.{root_of}
 use Rattle.devices.specs.Terminals.{ends_of}
 use Rattle.devices.specs.Readings.{terminal_spot, corner, Known, device_at, device_spot, Enumerated}
 use Rattle.devices.proofs.Channels.{ends-move}
@@ -25,7 +25,7 @@ pub record Going (k : Technology) (d : Drawing) (ts : List Tile) (rs : List ℕ)
   pub each : (i : ℕ) → i < length vs → DeviceAt k d (device_spot k vs i) (terminal_spot k (device_at vs i).one) (terminal_spot k (device_at vs i).other)
   pub from : (i : ℕ) → i < length vs → (c : ℕ) × (c < n) × (device_spot k vs i ≡ corner k ts c)
   pub order : (i j : ℕ) → i < j → j < length vs → Earlier (device_spot k vs i) (device_spot k vs j)
-  pub all : (c : ℕ) → c < n → root_of_lem rs c ≡ c → (i : ℕ) × (i < length vs) × (device_spot k vs i ≡ corner k ts c)
+  pub all : (c : ℕ) → c < n → root_of rs c ≡ c → (i : ℕ) × (i < length vs) × (device_spot k vs i ≡ corner k ts c)
 
 module _ (k : Technology) (d : Drawing) (ts : List Tile) (rs : List ℕ) where
   pub going-none : Going k d ts rs 0 []
@@ -37,18 +37,18 @@ module _ (k : Technology) (d : Drawing) (ts : List Tile) (rs : List ℕ) where
   }
 
   module _ (es : List Terminals) (known : Known k d ts rs es) (n : ℕ) (vs : List Device) (old : Going k d ts rs n vs) where
-    pub going-skip : (root_of_lem rs n ≡ n → ⊥) → Going k d ts rs (n + 1) vs
+    pub going-skip : (root_of rs n ≡ n → ⊥) → Going k d ts rs (n + 1) vs
     going-skip ne = record {
       each = old.each;
       from = λ i h. let p = old.from i h in (p.0, omega (arith, p.1), p.2);
       order = old.order;
       all = λ c h own. elim (cases_eq c n) [
-        | inl e ↦ absurd (ne (subst (λ v. root_of_lem rs v ≡ v) e own))
+        | inl e ↦ absurd (ne (subst (λ v. root_of rs v ≡ v) e own))
         | inr o ↦ old.all c (omega arith) own
       ];
     }
 
-    module _ (within : n < length ts) (own : root_of_lem rs n ≡ n) where
+    module _ (within : n < length ts) (own : root_of rs n ≡ n) where
       pub going_more : (one other : Terminal) → ends_of (get_or es n Isolated) ≡ Some (one, other) → Going k d ts rs (n + 1) (vs ++ record { x = (tile_at ts n).left; y = (tile_at ts n).top; one = one; other = other } ∷ [])
       going_more one other e = record {
         each = λ i h. elim (place i h) [
@@ -100,7 +100,7 @@ module _ (k : Technology) (d : Drawing) (ts : List Tile) (rs : List ℕ) where
         before = λ s h o.
             let p = channel-place k d ts rs known.gated s h in
             let below = earlier-tile k d ts rs known.gated n p.0 s within p.1 o in
-            let r = root_of_lem rs p.0 in
+            let r = root_of rs p.0 in
             let q = old.all r (omega (arith, known.gated.low p.0, below)) (known.gated.top p.0) in
             let u : Under k d (device_spot k vs q.0) s = subst (λ a. Under k d a s) (sym q.2)
             (known.gated.apart r p.0 (corner k ts r) s (corner-has k d ts rs known.gated r (omega (arith, within, known.gated.low p.0, below))) p.1 (known.gated.top p.0)) in
@@ -114,7 +114,7 @@ module _ (k : Technology) (d : Drawing) (ts : List Tile) (rs : List ℕ) where
       all = λ s h.
           let p = channel-place k d ts rs known.gated s h in
           let inside = holds-within ts p.0 s.layer s.x s.y p.1 in
-          let r = root_of_lem rs p.0 in
+          let r = root_of rs p.0 in
           let low : r < length ts = omega (arith, known.gated.low p.0, inside) in
           let q = old.all r (omega arith) (known.gated.top p.0) in
           (q.0, q.1, subst (λ a. Under k d a s) (sym q.2) (known.gated.apart r p.0 (corner k ts r) s (corner-has k d ts rs known.gated r low) p.1 (known.gated.top p.0)));

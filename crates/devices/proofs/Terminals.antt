@@ -10,7 +10,7 @@ use Rattle.devices.specs.declared.terminal.Terminal.{Terminal}
 use Rattle.devices.specs.declared.terminal.Terminals.{Terminals}
 use Rattle.devices.specs.declared.terminal.Terminals.TheVariants.{Isolated, One, Two, Many}
 use Rattle.devices.specs.Channels.{Earlier}
-use Rattle.devices.specs.Terminals.{precedes, sooner, with_one_lem, Held, Later, Sums}
+use Rattle.devices.specs.Terminals.{precedes, sooner, with_one, Held, Later, Sums}
 use Rattle.devices.proofs.Orders.{earlier_on, earlier-none}
 
 -- a place by its column and row, for the order only
@@ -96,7 +96,7 @@ module _ (bs : List Border) (r : ℕ) (b : Border) where
   itself = record { net = refl; late = earlier-none (dot b.x b.y) }
 
   module _ (e : b.channel ≡ r) where
-    one_more : (s : Terminal) → Sums bs r (One s) → (s.net ≡ b.net) ⊎ (s.net ≡ b.net → ⊥) → Sums more r (with_one_lem (One s) u)
+    one_more : (s : Terminal) → Sums bs r (One s) → (s.net ≡ b.net) ⊎ (s.net ≡ b.net → ⊥) → Sums more r (with_one (One s) u)
     one_more s h (inl p) =
         subst (Sums more r) (sym (cond-true (eqb s.net b.net) (One (sooner s u)) (Two s u) (eq-eqb s.net b.net p)))
         (held-sooner s u (held_more s h.0) (held-here e), each_more (Later (sooner s u)) (λ c m q. later-old s u c p (h.1 c m q)) (λ q. later-new s b p))
@@ -104,7 +104,7 @@ module _ (bs : List Border) (r : ℕ) (b : Border) where
         subst (Sums more r) (sym (cond-false (eqb s.net b.net) (One (sooner s u)) (Two s u) (ne_eqb s.net b.net n)))
         (held_more s h.0, held-here e, n, each_more (λ c. Later s c ⊎ Later u c) (λ c m q. inl (h.1 c m q)) (λ q. inr itself))
 
-    two-more : (s t : Terminal) → Sums bs r (Two s t) → (s.net ≡ b.net) ⊎ (s.net ≡ b.net → ⊥) → (t.net ≡ b.net) ⊎ (t.net ≡ b.net → ⊥) → Sums more r (with_one_lem (Two s t) u)
+    two-more : (s t : Terminal) → Sums bs r (Two s t) → (s.net ≡ b.net) ⊎ (s.net ≡ b.net → ⊥) → (t.net ≡ b.net) ⊎ (t.net ≡ b.net → ⊥) → Sums more r (with_one (Two s t) u)
     two-more s t h (inl p) o =
         subst (Sums more r) (sym (cond-true (eqb s.net b.net) (Two (sooner s u) t) (cond (eqb t.net b.net) (Two s (sooner t u)) Many) (eq-eqb s.net b.net p))) (
           held-sooner s u (held_more s h.0) (held-here e),
@@ -125,7 +125,7 @@ module _ (bs : List Border) (r : ℕ) (b : Border) where
         ∙ cond-false (eqb t.net b.net) (Two s (sooner t u)) Many (ne_eqb t.net b.net o)))
         (s, t, u, held_more s h.0, held_more t h.1, held-here e, h.2, n, o)
 
-    pub sums-more : (t : Terminals) → Sums bs r t → Sums more r (with_one_lem t u)
+    pub sums-more : (t : Terminals) → Sums bs r t → Sums more r (with_one t u)
     sums-more Isolated h = (held-here e, each_more (Later u) (λ c m q. absurd (h c m q)) (λ q. itself))
     sums-more (One s) h = one_more s h (cases_eq s.net b.net)
     sums-more (Two s t) h = two-more s t h (cases_eq s.net b.net) (cases_eq t.net b.net)
@@ -135,11 +135,11 @@ module _ (bs : List Border) (r : ℕ) (b : Border) where
 
 module _ (bs : List Border) (i : ℕ) (es : List Terminals) (b : Border) (within : i < length bs) (is : get_or bs i b ≡ b) (inside : b.channel < length es) where
   pub sums-step :
-      ((r : ℕ) → Sums (take i bs) r (get_or es r Isolated)) → (v : Terminals) → v ≡ with_one_lem (get_or es b.channel Isolated) (terminal_of b) →
+      ((r : ℕ) → Sums (take i bs) r (get_or es r Isolated)) → (v : Terminals) → v ≡ with_one (get_or es b.channel Isolated) (terminal_of b) →
       (r : ℕ) → Sums (take (i + 1) bs) r (get_or (set es b.channel v) r Isolated)
   sums-step old v e r =
       subst (λ l. Sums l r (get_or (set es b.channel v) r Isolated)) (sym (take_more bs i b within ∙ ap (λ c. take i bs ++ c ∷ []) is)) (elim (cases_eq r b.channel) [
-        | inl z ↦ subst (λ w. Sums (take i bs ++ b ∷ []) r w) (sym (ap (λ m. get_or (set es b.channel v) m Isolated) z ∙ (get_or-set_same es b.channel v Isolated inside ∙ (e ∙ ap (λ m. with_one_lem (get_or es m Isolated) (terminal_of b)) (sym z)))))
+        | inl z ↦ subst (λ w. Sums (take i bs ++ b ∷ []) r w) (sym (ap (λ m. get_or (set es b.channel v) m Isolated) z ∙ (get_or-set_same es b.channel v Isolated inside ∙ (e ∙ ap (λ m. with_one (get_or es m Isolated) (terminal_of b)) (sym z)))))
             (sums-more (take i bs) r b (sym z) (get_or es r Isolated) (old r))
         | inr n ↦ subst (λ w. Sums (take i bs ++ b ∷ []) r w) (sym (get_or-set_other es b.channel r v Isolated n)) (sums-other (take i bs) r b (λ z. n (sym z)) (get_or es r Isolated) (old r))
       ])

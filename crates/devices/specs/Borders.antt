@@ -9,7 +9,7 @@ use Rattle.tiles.specs.Cuts.{far}
 use Rattle.devices.specs.declared.border.Border.{Border}
 use Rattle.devices.specs.declared.direction.Direction.{Direction}
 use Rattle.devices.specs.declared.direction.Direction.TheVariants.{Right, Left, Below, Above}
-use Rattle.devices.specs.Pieces.{root_of_lem}
+use Rattle.devices.specs.Pieces.{root_of}
 
 -- the upper or left one of two squares is at x, y: the column and the row of the one under the gate, where the wire lies in a direction from it
 abbrev pub channel_x : Direction → ℕ → ℕ
@@ -57,8 +57,8 @@ pub record BorderAt (v : Direction) (layer : ℕ) (cs : List Tile) (hs : List �
   pub other : ℕ
   pub under : Holds (tile_at cs one) layer (channel_x v x) (channel_y v y)
   pub wired : Holds (tile_at ws other) layer (wire_x v x) (wire_y v y)
-  pub channel : b.channel ≡ root_of_lem hs one
-  pub net : b.net ≡ root_of_lem ns other
+  pub channel : b.channel ≡ root_of hs one
+  pub net : b.net ≡ root_of ns other
   pub across : b.x ≡ wire_x v x
   pub down : b.y ≡ wire_y v y
 

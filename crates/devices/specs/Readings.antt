@@ -12,7 +12,7 @@ use Rattle.devices.specs.declared.reading.Reading.{Reading}
 use Rattle.devices.specs.declared.reading.Reading.TheVariants.{Devices, Odd}
 use Rattle.devices.specs.Channels.{channel, spot_of, Under, Earlier}
 use Rattle.devices.specs.Ends.{Side, DeviceAt, OddAt}
-use Rattle.devices.specs.Pieces.{root_of_lem, Gated}
+use Rattle.devices.specs.Pieces.{root_of, Gated}
 
 abbrev pub terminal_spot : Technology → Terminal → Spot
 terminal_spot k t = spot_of k t.x t.y
@@ -39,7 +39,7 @@ corner k ts i = spot_of k (tile_at ts i).left (tile_at ts i).top
 -- the tiles of channels, and what lies beside each channel
 pub record Known (k : Technology) (d : Drawing) (ts : List Tile) (rs : List ℕ) (es : List Terminals) : Type 0 where
   pub gated : Gated k d ts rs
-  pub judged : (i : ℕ) → i < length ts → root_of_lem rs i ≡ i → Judged k d (corner k ts i) (slice_index_or es i Isolated)
+  pub judged : (i : ℕ) → i < length ts → root_of rs i ≡ i → Judged k d (corner k ts i) (slice_index_or es i Isolated)
 
 abbrev pub device_at : List Device → ℕ → Device
 device_at vs i = slice_index_or vs i (record { x = 0; y = 0; one = record { net = 0; x = 0; y = 0 }; other = record { net = 0; x = 0; y = 0 } })

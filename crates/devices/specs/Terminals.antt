@@ -14,11 +14,11 @@ abbrev pub sooner : Terminal → Terminal → Terminal
 sooner s t = cond (precedes t s) t s
 
 -- one square more
-abbrev pub with_one_lem : Terminals → Terminal → Terminals
-with_one_lem Isolated u = One u
-with_one_lem (One s) u = cond (s.net == u.net) (One (sooner s u)) (Two s u)
-with_one_lem (Two s t) u = cond (s.net == u.net) (Two (sooner s u) t) (cond (t.net == u.net) (Two s (sooner t u)) Many)
-with_one_lem Many u = Many
+abbrev pub with_one : Terminals → Terminal → Terminals
+with_one Isolated u = One u
+with_one (One s) u = cond (s.net == u.net) (One (sooner s u)) (Two s u)
+with_one (Two s t) u = cond (s.net == u.net) (Two (sooner s u) t) (cond (t.net == u.net) (Two s (sooner t u)) Many)
+with_one Many u = Many
 
 -- the two ends of a device, the one with the first square before the other
 abbrev pub ends_of : Terminals → Option (Terminal × Terminal)

@@ -6,7 +6,7 @@ ghost use Rattle.groups.specs.Names.{size, group};
 ghost use Rattle.tiles.specs.Tiles.{Ordered};
 ghost use Rattle.tiles.specs.Cuts.{Bounded};
 ghost use Rattle.nets.specs.Processes.{technology_of};
-ghost use Rattle.devices.specs.Pieces.{root_of_lem, RootAt, Linked, Wired};
+ghost use Rattle.devices.specs.Pieces.{root_of, RootAt, Linked, Wired};
 
 use groups::forest::Groups;
 use layout::rect::Rect;
@@ -30,7 +30,7 @@ pub struct Pieces {
 // The first item of the group of each.
 fn roots_of(heap: Global, groups: &mut Groups, count: usize) -> Result<Vec<usize>, AllocError>
     requires { size groups.old ≡ count }
-    ensures { IfOk result (λ v. (length v.items ≡ count) × ((i : ℕ) → root_of_lem v.items i ≡ group groups.old i)) }
+    ensures { IfOk result (λ v. (length v.items ≡ count) × ((i : ℕ) → root_of v.items i ≡ group groups.old i)) }
 {
     let mut roots = Vec::new(heap);
     for i in 0..count {

@@ -1,7 +1,7 @@
 // The nets beside a channel, each with its first square.
 ghost use Rattle.std.specs.Prelude.{◌≡◌, ◌<◌, IfOk};
 ghost use Rattle.std.specs.List.{AllByRecursion};
-ghost use Rattle.devices.specs.Terminals.{precedes, sooner, with_one_lem, ends_of, Gathered};
+ghost use Rattle.devices.specs.Terminals.{precedes, sooner, with_one, ends_of, Gathered};
 
 use crate::border::Border;
 use std::alloc::{AllocError, Global};
@@ -44,7 +44,7 @@ impl Terminal {
 impl Terminals {
     // These and one square more.
     pub fn with_one(self, more: Terminal) -> Terminals
-        ensures { result ≡ with_one_lem self more }
+        ensures { result ≡ with_one self more }
     {
         match self {
             Terminals::Isolated => Terminals::One(more),

@@ -77,6 +77,7 @@ fn broken_lines(heap: Global, deck: &[RuleText], broken: &[Region]) -> Result<Ve
     Ok(out)
 }
 
+// The lines of the broken rules.
 fn judge_texts(heap: Global, layout: &[u8], rules: &[u8]) -> Result<Vec<u8>, Stop> {
     let text = match read_layout(heap, layout) {
         Ok(text) => text,

@@ -7,9 +7,9 @@ use Rattle.layout.specs.Numbers.{sixes}
 use Rattle.layout.specs.Pieces.{Sound}
 use Rattle.layout.proofs.Nodes.{below-2}
 use Rattle.layout.proofs.Pieces.{earlier-at}
-use Rattle.layout_writer.specs.Lines.{line_of, open_words, statement_line_lem, numbers_of}
-use Rattle.layout_writer.specs.Cells.{has_cell_lem}
-use Rattle.layout_writer.specs.Texts.{node_text, put_line_lem, statements, cell_text, cells_text, layout_text}
+use Rattle.layout_writer.specs.Lines.{line_of, open_words, statement_line, numbers_of}
+use Rattle.layout_writer.specs.Cells.{has_cell}
+use Rattle.layout_writer.specs.Texts.{node_text, put_line, statements, cell_text, cells_text, layout_text}
 
 -- a node that is not put
 module _ (xs g : List ℕ) (n : ℕ) (named : Bool) (unnamed : named ≡ false) (old new put : List ℕ) where
@@ -24,20 +24,20 @@ module _ (xs g : List ℕ) (n : ℕ) (named : Bool) (unnamed : named ≡ false) 
   adds-nothing k e zero h = absurd (omega arith)
   adds-nothing k e (suc l) h =
       onto (suc l) [] (e ∙ sym (append-nil old))
-      (sym (ap (λ u. node_text g (λ m. cond (has_cell_lem xs m) (put_line_lem g m) (statements xs g l m)) u (get_or xs (6 * n + 1) 0) (get_or xs (6 * n + 2) 0) (get_or xs (6 * n + 3) 0) (get_or xs (6 * n + 4) 0) (get_or xs (6 * n + 5) 0)) k))
+      (sym (ap (λ u. node_text g (λ m. cond (has_cell xs m) (put_line g m) (statements xs g l m)) u (get_or xs (6 * n + 1) 0) (get_or xs (6 * n + 2) 0) (get_or xs (6 * n + 3) 0) (get_or xs (6 * n + 4) 0) (get_or xs (6 * n + 5) 0)) k))
 
-  pub adds-both : get_or xs (6 * n) 0 ≡ 2 → get_or xs (6 * n + 1) 0 < n → get_or xs (6 * n + 2) 0 < n → (mid : List ℕ) → ((l : ℕ) → get_or xs (6 * n + 1) 0 < l → mid ≡ old ++ cond (has_cell_lem xs (get_or xs (6 * n + 1) 0)) (put_line_lem g (get_or xs (6 * n + 1) 0)) (statements xs g l (get_or xs (6 * n + 1) 0))) → ((l : ℕ) → get_or xs (6 * n + 2) 0 < l → new ≡ mid ++ cond (has_cell_lem xs (get_or xs (6 * n + 2) 0)) (put_line_lem g (get_or xs (6 * n + 2) 0)) (statements xs g l (get_or xs (6 * n + 2) 0))) → (l : ℕ) → n < l → Added l
+  pub adds-both : get_or xs (6 * n) 0 ≡ 2 → get_or xs (6 * n + 1) 0 < n → get_or xs (6 * n + 2) 0 < n → (mid : List ℕ) → ((l : ℕ) → get_or xs (6 * n + 1) 0 < l → mid ≡ old ++ cond (has_cell xs (get_or xs (6 * n + 1) 0)) (put_line g (get_or xs (6 * n + 1) 0)) (statements xs g l (get_or xs (6 * n + 1) 0))) → ((l : ℕ) → get_or xs (6 * n + 2) 0 < l → new ≡ mid ++ cond (has_cell xs (get_or xs (6 * n + 2) 0)) (put_line g (get_or xs (6 * n + 2) 0)) (statements xs g l (get_or xs (6 * n + 2) 0))) → (l : ℕ) → n < l → Added l
   unfolding statements
   adds-both k p q mid e f zero h = absurd (omega arith)
   adds-both k p q mid e f (suc l) h =
-      let part : ℕ → List ℕ = λ m. cond (has_cell_lem xs m) (put_line_lem g m) (statements xs g l m) in
+      let part : ℕ → List ℕ = λ m. cond (has_cell xs m) (put_line g m) (statements xs g l m) in
       let a = get_or xs (6 * n + 1) 0 in
       let b = get_or xs (6 * n + 2) 0 in
       onto (suc l) (part a ++ part b)
       (f l (omega arith) ∙ ap (λ t. t ++ part b) (e l (omega arith)) ∙ append_assoc old (part a) (part b))
       (sym (ap (λ u. node_text g part u a b (get_or xs (6 * n + 3) 0) (get_or xs (6 * n + 4) 0) (get_or xs (6 * n + 5) 0)) k))
 
-  pub adds-line : (get_or xs (6 * n) 0 ≡ 0 → ⊥) → (get_or xs (6 * n) 0 ≡ 2 → ⊥) → (line : List ℕ) → line ≡ statement_line_lem (numbers_of xs n) → new ≡ old ++ (g ++ line) → (l : ℕ) → n < l → Added l
+  pub adds-line : (get_or xs (6 * n) 0 ≡ 0 → ⊥) → (get_or xs (6 * n) 0 ≡ 2 → ⊥) → (line : List ℕ) → line ≡ statement_line (numbers_of xs n) → new ≡ old ++ (g ++ line) → (l : ℕ) → n < l → Added l
   unfolding statements
   adds-line p q line e f zero h = absurd (omega arith)
   adds-line p q line e f (suc l) h =
@@ -52,7 +52,7 @@ adds-cell xs n old mid late new line e f g h =
     ∙ append_assoc (old ++ line_of (open_words n)) s (codes "}\n") ∙ append_assoc old (line_of (open_words n)) (s ++ codes "}\n")
 
 -- one node more
-pub cells-more : (xs : List ℕ) (n : ℕ) (b : Bool) (old new : List ℕ) → old ≡ cells_text xs n → b ≡ has_cell_lem xs n → new ≡ old ++ cond b (cell_text xs n) [] → new ≡ cells_text xs (n + 1)
+pub cells-more : (xs : List ℕ) (n : ℕ) (b : Bool) (old new : List ℕ) → old ≡ cells_text xs n → b ≡ has_cell xs n → new ≡ old ++ cond b (cell_text xs n) [] → new ≡ cells_text xs (n + 1)
 unfolding cells_text
 cells-more xs n b old new e f g =
     let z : suc n ≡ n + 1 = omega arith in

@@ -5,7 +5,7 @@ use Rattle.std.proofs.lemmas.List.Prefix.{front_rest}
 use Rattle.std.proofs.lemmas.Bool.{and_parts, and_from, leb-true, ne_eqb}
 use Rattle.words.specs.Numbers.{all_digits}
 use Rattle.words.specs.Steps.{and_then}
-use Rattle.words.specs.Words.{kind_of_lem, is_letter, letters, words_from}
+use Rattle.words.specs.Words.{kind_of, is_letter, letters, words_from}
 use Rattle.words.specs.declared.word.Marks.TheVariants.{Braces}
 use Rattle.words.proofs.Words.{at-newline, at-blank, at_mark, word-begun, word-ended}
 use Rattle.text.specs.Readings.{State, accept, read}
@@ -18,13 +18,13 @@ pub record Whole (w : List ℕ) : Type 0 where
 
 abbrev pub plain : List ℕ → Bool
 plain [] = true
-plain (b ∷ bs) = is_letter (kind_of_lem Braces b) && plain bs
+plain (b ∷ bs) = is_letter (kind_of Braces b) && plain bs
 
 letters-are : (w rest : List ℕ) → plain w ≡ true → letters Braces rest ≡ [] → letters Braces (w ++ rest) ≡ w
 unfolding letters
 letters-are [] rest p e = e
 letters-are (b ∷ bs) rest p e =
-    let q = and_parts (is_letter (kind_of_lem Braces b)) (plain bs) p in
+    let q = and_parts (is_letter (kind_of Braces b)) (plain bs) p in
     ap (λ t. cond t (b ∷ letters Braces (bs ++ rest)) []) q.0 ∙ ap (λ us. b ∷ us) (letters-are bs rest q.1 e)
 
 pub whole_plain : (w : List ℕ) → plain w ≡ true → 1 ≤ length w → Whole w
@@ -45,7 +45,7 @@ whole_open = record { cut = λ n at rest e. (at + 1, at_mark Braces n at 123 res
 pub whole-close : Whole (codes "}")
 whole-close = record { cut = λ n at rest e. (at + 1, at_mark Braces n at 125 rest refl) }
 
-digit_letter : (b : ℕ) → 48 ≤ b → b ≤ 57 → is_letter (kind_of_lem Braces b) ≡ true
+digit_letter : (b : ℕ) → 48 ≤ b → b ≤ 57 → is_letter (kind_of Braces b) ≡ true
 digit_letter b l h =
     simp (ne_eqb b 10 (λ e. omega arith), ne_eqb b 32 (λ e. omega arith), ne_eqb b 9 (λ e. omega arith), ne_eqb b 13 (λ e. omega arith), ne_eqb b 35 (λ e. omega arith), ne_eqb b 123 (λ e. omega arith), ne_eqb b 125 (λ e. omega arith))
 

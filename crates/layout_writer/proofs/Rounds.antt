@@ -25,8 +25,8 @@ use Rattle.text.specs.declared.statement.Statement.TheVariants as statement
 use Rattle.text.specs.declared.statement.Said.{Said}
 use Rattle.text.proofs.Scenes.{text_draws}
 use Rattle.layout_writer.specs.Lines.{name, line_of, box_words, put_words, put_here, open_words}
-use Rattle.layout_writer.specs.Cells.{uses, has_cell_lem}
-use Rattle.layout_writer.specs.Texts.{node_text, put_line_lem, statements, cell_text, cells_text, layout_text, ReadsBack}
+use Rattle.layout_writer.specs.Cells.{uses, has_cell}
+use Rattle.layout_writer.specs.Texts.{node_text, put_line, statements, cell_text, cells_text, layout_text, ReadsBack}
 use Rattle.layout_writer.proofs.Cutting.{whole_plain, whole-name, Says, also, Turns, turns-none, turns_then, turns-blank, line-turns}
 use Rattle.layout_writer.proofs.Drawings.{drawing, kinds, at_most_7, moved_same, turned_same, mirrored-same, row_same, column-same, put_same, spread, spread_none, spread_one, spread_both, together_spread}
 use Rattle.layout_writer.proofs.Named.{place-new, place-old}
@@ -159,7 +159,7 @@ module _ (xs : List ℕ) (sound : Sound xs) where
         (All-push Quiet s.said (at s.row st) s.quiet tt)
         (ap put_down (after_one s.said s.row st (grown b cs i ps) s.shows (λ v. refl)) ∙ put-grown cs i ps b j x y)
 
-    module _ (bound : ℕ) (low : bound ≤ sixes xs) (known : (m : ℕ) → m < bound → has_cell_lem xs m ≡ true → Known xs c k cs m) where
+    module _ (bound : ℕ) (low : bound ≤ sixes xs) (known : (m : ℕ) → m < bound → has_cell xs m ≡ true → Known xs c k cs m) where
       module _ (n : ℕ) (here : n < sixes xs) (under : n ≤ bound) (part : ℕ → List ℕ) (parts : (m : ℕ) → m < n → (ps : List Layout) (s : Stand ps) → Grows (part m) ps s (drawing (piece xs m))) where
         abbrev A : ℕ
         A = get_or xs (6 * n + 1) 0
@@ -274,19 +274,19 @@ module _ (xs : List ℕ) (sound : Sound xs) where
             (kinds Tells tells-0 tells-1 tells-2 tells-3 tells-4 tells-5 tells-6 tells-7 K (at_most_7 n K A B C o) refl o ps s)
 
       -- a part that is put
-      put-part : (m : ℕ) → Known xs c k cs m → (ps : List Layout) (s : Stand ps) → Grows (put_line_lem g m) ps s (drawing (piece xs m))
+      put-part : (m : ℕ) → Known xs c k cs m → (ps : List Layout) (s : Stand ps) → Grows (put_line g m) ps s (drawing (piece xs m))
       put-part m kn ps s =
           let p = get_or cs kn.place nothing in
-          grows_same (put_line_lem g m) ps s (drawing (moved 0 0 p)) (drawing (piece xs m)) (put_same p ∙ kn.same) (grows-put ps s m kn.place 0 0 (codes "0") (codes "0") kn.named zero_number zero_number)
+          grows_same (put_line g m) ps s (drawing (moved 0 0 p)) (drawing (piece xs m)) (put_same p ∙ kn.same) (grows-put ps s m kn.place 0 0 (codes "0") (codes "0") kn.named zero_number zero_number)
 
       spoken : (l n : ℕ) → n < l → n < sixes xs → n ≤ bound → (ps : List Layout) (s : Stand ps) → Grows (statements xs g l n) ps s (drawing (piece xs n))
       unfolding statements
       spoken zero n h here under ps s = absurd (omega arith)
       spoken (suc l) n h here under ps s =
-          let part : ℕ → List ℕ = λ m. cond (has_cell_lem xs m) (put_line_lem g m) (statements xs g l m) in
-          tells n here under part (λ m lt qs t. elim (cases_Bool (has_cell_lem xs m)) [
-            | inl e ↦ subst (λ (d : Bool). Grows (cond d (put_line_lem g m) (statements xs g l m)) qs t (drawing (piece xs m))) (sym e) (put-part m (known m (omega arith) e) qs t)
-            | inr e ↦ subst (λ (d : Bool). Grows (cond d (put_line_lem g m) (statements xs g l m)) qs t (drawing (piece xs m))) (sym e) (spoken l m (omega arith) (omega arith) (omega arith) qs t)
+          let part : ℕ → List ℕ = λ m. cond (has_cell xs m) (put_line g m) (statements xs g l m) in
+          tells n here under part (λ m lt qs t. elim (cases_Bool (has_cell xs m)) [
+            | inl e ↦ subst (λ (d : Bool). Grows (cond d (put_line g m) (statements xs g l m)) qs t (drawing (piece xs m))) (sym e) (put-part m (known m (omega arith) e) qs t)
+            | inr e ↦ subst (λ (d : Bool). Grows (cond d (put_line g m) (statements xs g l m)) qs t (drawing (piece xs m))) (sym e) (spoken l m (omega arith) (omega arith) (omega arith) qs t)
           ]) ps s
 
   -- the cells of the first nodes have been read
@@ -306,7 +306,7 @@ module _ (xs : List ℕ) (sound : Sound xs) where
     names-long : length names ≡ count
     cells-long : length cells ≡ count
     unused : (m : ℕ) → n ≤ m → m < 2 ^ 62 → place_of names (name m) ≡ None
-    known : (m : ℕ) → m < n → has_cell_lem xs m ≡ true → Known xs names count cells m
+    known : (m : ℕ) → m < n → has_cell xs m ≡ true → Known xs names count cells m
 
   come-none : Come 0
   unfolding cells_text all_shown place_below
@@ -330,7 +330,7 @@ module _ (xs : List ℕ) (sound : Sound xs) where
   }
 
   -- a node without a cell
-  come-on : (n : ℕ) → has_cell_lem xs n ≡ false → Come n → Come (suc n)
+  come-on : (n : ℕ) → has_cell xs n ≡ false → Come n → Come (suc n)
   unfolding cells_text
   come-on n e c = record {
     said = c.said;
@@ -349,13 +349,13 @@ module _ (xs : List ℕ) (sound : Sound xs) where
     cells-long = c.cells-long;
     unused = λ m l h. c.unused m (omega arith) h;
     known = λ m h f. elim (cases_eq m n) [
-      | inl y ↦ absurd (both_ways (has_cell_lem xs m) (ap (has_cell_lem xs) y ∙ e) f)
+      | inl y ↦ absurd (both_ways (has_cell xs m) (ap (has_cell xs) y ∙ e) f)
       | inr y ↦ c.known m (omega arith) f
     ];
   }
 
   -- a node with a cell
-  module _ (n : ℕ) (here : n < sixes xs) (owns : has_cell_lem xs n ≡ true) (c : Come n) where
+  module _ (n : ℕ) (here : n < sixes xs) (owns : has_cell xs n ≡ true) (c : Come n) where
     few : n < 2 ^ 62
     few = let f = sound.few in omega arith
 
@@ -368,7 +368,7 @@ module _ (xs : List ℕ) (sound : Sound xs) where
     opened : Turns (line_of (open_words n)) (stands c.said c.names c.count c.turning c.line c.values) (stands d1 ns c.count false c.row (0 ∷ 0 ∷ [])) c.row (suc c.row)
     opened = line-turns (open-says c.row c.said c.names c.count c.turning c.line c.values n (omega (arith, c.names-long)) (whole-name n (omega (arith, few))) (c.unused n (omega arith) few))
 
-    known-inside : (m : ℕ) → m < n → has_cell_lem xs m ≡ true → Known xs ns c.count c.cells m
+    known-inside : (m : ℕ) → m < n → has_cell xs m ≡ true → Known xs ns c.count c.cells m
     known-inside m h e =
         let kn = c.known m h e in
         let f = few in
@@ -443,7 +443,7 @@ module _ (xs : List ℕ) (sound : Sound xs) where
   comes zero h = come-none
   comes (suc n) h =
       let c = comes n (omega arith) in
-      elim (cases_Bool (has_cell_lem xs n)) [ inl e ↦ come-cell n (omega arith) e c | inr e ↦ come-on n e c ]
+      elim (cases_Bool (has_cell xs n)) [ inl e ↦ come-cell n (omega arith) e c | inr e ↦ come-on n e c ]
 
   -- all cells, and then the last node
   come : Come (sixes xs)

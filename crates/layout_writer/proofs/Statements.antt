@@ -4,8 +4,8 @@ use Rattle.std.proofs.lemmas.Bool.{lt-ltb, le-ltb}
 use Rattle.words.specs.Chains.{place_of}
 use Rattle.words.specs.Numbers.{number_in}
 use Rattle.words.specs.Steps.{by_some}
-use Rattle.text.specs.Keywords.{keyword_of_lem, slots, slot_at}
-use Rattle.text.specs.Readings.{State, may_begin_lem, value_of, settled, fresh, begin, noted, valued, go_on, accept}
+use Rattle.text.specs.Keywords.{keyword_of, slots, slot_at}
+use Rattle.text.specs.Readings.{State, may_begin, value_of, settled, fresh, begin, noted, valued, go_on, accept}
 use Rattle.text.specs.declared.keyword.Keyword.{Keyword}
 use Rattle.text.specs.declared.keyword.Slot.{Slot}
 use Rattle.text.specs.declared.keyword.Keyword.TheVariants as key
@@ -23,10 +23,10 @@ stands d c k t l v = record { said = d; cells = c; pins = []; closed = k; turnin
 abbrev goes : List Said → List (List ℕ) → ℕ → Bool → ℕ → List ℕ → Keyword → State
 goes d c k t l v K = record { said = d; cells = c; pins = []; closed = k; turning = t; begun = Some K; line = l; values = v }
 
-begin-word : (s : State) (K : Keyword) (w : List ℕ) (n : ℕ) → s.begun ≡ None → keyword_of_lem w ≡ Some K → may_begin_lem s K ≡ true → accept s w n ≡ Ok (settled (fresh s n) K)
+begin-word : (s : State) (K : Keyword) (w : List ℕ) (n : ℕ) → s.begun ≡ None → keyword_of w ≡ Some K → may_begin s K ≡ true → accept s w n ≡ Ok (settled (fresh s n) K)
 begin-word s K w n b e m =
     ap (λ o. by_some o (begin s w n) (λ k. go_on s k w n)) b
-    ∙ ap (λ o. by_some o (Err n) (λ k. cond (may_begin_lem s k) (Ok (settled (fresh s n) k)) (Err n))) e
+    ∙ ap (λ o. by_some o (Err n) (λ k. cond (may_begin s k) (Ok (settled (fresh s n) k)) (Err n))) e
     ∙ ap (λ t. cond t (Ok (settled (fresh s n) K)) (Err n)) m
 
 next_word : (s : State) (K : Keyword) (p : Slot) (w : List ℕ) (n v : ℕ) → s.begun ≡ Some K → slot_at (slots K) (length s.values) ≡ Some p → value_of s p w ≡ Some v → accept s w n ≡ Ok (settled (valued (noted s p w) v) K)

@@ -2,7 +2,7 @@
 use Rattle.std.proofs.Common.{◌≡◌, ℕ, zero, suc, ◌+◌, ◌*◌, ◌<◌, ◌≤◌, true, List, get_or, refl, ap, ◌∙◌, inl, inr, arith}
 use Rattle.std.proofs.lemmas.Bool.{cases_eq, eq-eqb, le-leb}
 use Rattle.layout.specs.Numbers.{sixes}
-use Rattle.layout_writer.specs.Cells.{once, uses, uses_below, has_cell_lem}
+use Rattle.layout_writer.specs.Cells.{once, uses, uses_below, has_cell}
 
 abbrev pub uses_by : List ℕ → (m n : ℕ) → ℕ
 uses_by xs m n = uses (get_or xs (6 * n) 0) (get_or xs (6 * n + 1) 0) (get_or xs (6 * n + 2) 0) (get_or xs (6 * n + 3) 0) m
@@ -22,7 +22,7 @@ uses-at xs m n (suc k) h = elim (cases_eq n k) [
 once-same : (m : ℕ) → once m m ≡ 1
 once-same m = simp (eq-eqb m m refl)
 
-pub named-cell : (xs : List ℕ) (m n : ℕ) → n < sixes xs → 2 ≤ uses_by xs m n → has_cell_lem xs m ≡ true
+pub named-cell : (xs : List ℕ) (m n : ℕ) → n < sixes xs → 2 ≤ uses_by xs m n → has_cell xs m ≡ true
 named-cell xs m n h u = le-leb 2 (uses_below xs m (sixes xs)) (omega (arith, uses-at xs m n (sixes xs) h))
 
 pub names-once : (m : ℕ) → 2 ≤ 2 * once m m

@@ -15,5 +15,5 @@ uses_below xs m zero = 0
 uses_below xs m (suc n) = uses_below xs m n + uses (slice_index xs (6 * n)) (slice_index xs (6 * n + 1)) (slice_index xs (6 * n + 2)) (slice_index xs (6 * n + 3)) m
 
 -- a node that has a name, or stands in two places
-abbrev pub has_cell_lem : List ℕ → ℕ → Bool
-has_cell_lem xs m = nat_le 2 (uses_below xs m (sixes xs))
+abbrev pub has_cell : List ℕ → ℕ → Bool
+has_cell xs m = nat_le 2 (uses_below xs m (sixes xs))

@@ -40,5 +40,5 @@ open_words n = codes "cell" ∷ name n ∷ codes "{" ∷ []
 abbrev pub numbers_of : List ℕ → ℕ → List ℕ
 numbers_of xs n = slice_index xs (6 * n) ∷ slice_index xs (6 * n + 1) ∷ slice_index xs (6 * n + 2) ∷ slice_index xs (6 * n + 3) ∷ slice_index xs (6 * n + 4) ∷ slice_index xs (6 * n + 5) ∷ []
 
-abbrev pub statement_line_lem : List ℕ → List ℕ
-statement_line_lem xs = line_of (statement_words (slice_index xs 0) (slice_index xs 1) (slice_index xs 2) (slice_index xs 3) (slice_index xs 4) (slice_index xs 5))
+abbrev pub statement_line : List ℕ → List ℕ
+statement_line xs = line_of (statement_words (slice_index xs 0) (slice_index xs 1) (slice_index xs 2) (slice_index xs 3) (slice_index xs 4) (slice_index xs 5))

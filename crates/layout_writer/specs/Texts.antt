@@ -10,20 +10,20 @@ use Rattle.layout.specs.declared.refusal.Fault.{Fault}
 use Rattle.layout.specs.declared.refusal.Fault.TheVariants.{Refused, Memory}
 use Rattle.text.specs.LayoutTexts.{Meaning, layout_text as meant-by}
 use Rattle.layout_writer.specs.Lines.{line_of, put_here, statement_words, open_words}
-use Rattle.layout_writer.specs.Cells.{has_cell_lem}
+use Rattle.layout_writer.specs.Cells.{has_cell}
 
 -- a node's statements after a margin: one line, or those of its two parts
 abbrev pub node_text : (margin : List ℕ) → (ℕ → List ℕ) → (k a b c e f : ℕ) → List ℕ
 node_text g part k a b c e f = cond (k == 0) [] (cond (k == 2) (part a ++ part b) (g ++ line_of (statement_words k a b c e f)))
 
-abbrev pub put_line_lem : (margin : List ℕ) → ℕ → List ℕ
-put_line_lem g n = g ++ line_of (put_here n)
+abbrev pub put_line : (margin : List ℕ) → ℕ → List ℕ
+put_line g n = g ++ line_of (put_here n)
 
 -- a part that has a cell is put, any other is written where it stands
 unfoldable pub statements : List ℕ → (margin : List ℕ) → (levels : ℕ) → ℕ → List ℕ
 statements xs g zero n = []
 statements xs g (suc l) n =
-    node_text g (λ m. cond (has_cell_lem xs m) (put_line_lem g m) (statements xs g l m)) (slice_index xs (6 * n)) (slice_index xs (6 * n + 1)) (slice_index xs (6 * n + 2)) (slice_index xs (6 * n + 3)) (slice_index xs (6 * n + 4)) (slice_index xs (6 * n + 5))
+    node_text g (λ m. cond (has_cell xs m) (put_line g m) (statements xs g l m)) (slice_index xs (6 * n)) (slice_index xs (6 * n + 1)) (slice_index xs (6 * n + 2)) (slice_index xs (6 * n + 3)) (slice_index xs (6 * n + 4)) (slice_index xs (6 * n + 5))
 
 abbrev pub cell_text : List ℕ → ℕ → List ℕ
 cell_text xs n = line_of (open_words n) ++ (statements xs (codes "    ") (suc n) n ++ line_of (codes "}" ∷ []))
@@ -31,7 +31,7 @@ cell_text xs n = line_of (open_words n) ++ (statements xs (codes "    ") (suc n)
 -- the cells of the first n nodes
 unfoldable pub cells_text : List ℕ → ℕ → List ℕ
 cells_text xs zero = []
-cells_text xs (suc n) = cells_text xs n ++ cond (has_cell_lem xs n) (cell_text xs n) []
+cells_text xs (suc n) = cells_text xs n ++ cond (has_cell xs n) (cell_text xs n) []
 
 -- and the statements of the last node
 abbrev pub layout_text : List ℕ → List ℕ

@@ -1,7 +1,7 @@
 // Which nodes get a cell of their own.
 ghost use Rattle.std.specs.Prelude.{◌≡◌, ◌≤◌, slice_index};
 ghost use Rattle.layout.specs.Pieces.{Sound};
-ghost use Rattle.layout_writer.specs.Cells.{once, uses, has_cell_lem};
+ghost use Rattle.layout_writer.specs.Cells.{once, uses, has_cell};
 
 use super::line::numbers_of;
 
@@ -36,7 +36,7 @@ fn uses(numbers: [u64; 6], m: u64) -> u64
 /// Whether a node gets a cell: it is named, or stands in two places.
 pub(crate) fn has_cell(layout: &[u64], m: usize) -> bool
     requires { Sound layout.now }
-    ensures { result ≡ has_cell_lem layout.now m }
+    ensures { result ≡ has_cell layout.now m }
 {
     let mut total = 0;
     for n in 0..layout.len() / 6 {

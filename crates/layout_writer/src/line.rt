@@ -1,6 +1,6 @@
 // Statements written as lines of a layout text.
 ghost use Rattle.std.specs.Prelude.{◌≡◌, ◌+◌, ◌*◌, ◌≤◌, length, IfOk, string_bytes};
-ghost use Rattle.layout_writer.specs.Lines.{numbers_of, line_of, box_words, put_here, open_words, statement_line_lem};
+ghost use Rattle.layout_writer.specs.Lines.{numbers_of, line_of, box_words, put_here, open_words, statement_line};
 
 use std::alloc::{AllocError, Global};
 
@@ -36,7 +36,7 @@ fn box_line(
 
 /// The line of a node that is neither nothing nor both. A turn follows a put that doesn't move.
 pub(crate) fn statement_line(heap: Global, numbers: [u64; 6]) -> Result<String, AllocError>
-    ensures { IfOk result (λ s. string_bytes s ≡ statement_line_lem numbers) }
+    ensures { IfOk result (λ s. string_bytes s ≡ statement_line numbers) }
 {
     let [kind, a, b, c, d, e] = numbers;
     match kind {

@@ -2,8 +2,8 @@
 ghost use Rattle.std.specs.Prelude.{◌≡◌, ℕ, ◌<◌, not, ◌&&◌, ◌++◌, IfOk, if◌then◌else◌, string_bytes, OnOk};
 ghost use Rattle.layout.specs.Numbers.{sixes};
 ghost use Rattle.layout.specs.Pieces.{Sound};
-ghost use Rattle.layout_writer.specs.Cells.{has_cell_lem};
-ghost use Rattle.layout_writer.specs.Texts.{put_line_lem, statements, cell_text, layout_text, InOrder, Written};
+ghost use Rattle.layout_writer.specs.Cells.{has_cell};
+ghost use Rattle.layout_writer.specs.Texts.{put_line, statements, cell_text, layout_text, InOrder, Written};
 
 use super::cell::has_cell;
 use super::line::{numbers_of, open_line, put_line, statement_line};
@@ -46,7 +46,7 @@ fn add_node(
 ) -> Result<(), AllocError>
     requires sound { Sound layout.now }
     requires within { n < sixes layout.now }
-    ensures { OnOk result ((l : ℕ) → n < l → string_bytes text.new ≡ string_bytes text.old ++ (if part && has_cell_lem layout.now n then put_line_lem margin.now n else statements layout.now margin.now l n)) }
+    ensures { OnOk result ((l : ℕ) → n < l → string_bytes text.new ≡ string_bytes text.old ++ (if part && has_cell layout.now n then put_line margin.now n else statements layout.now margin.now l n)) }
 {
     if part & has_cell(layout, n) {
         let line = put_line(heap, n)?;

@@ -27,7 +27,7 @@ pub enum Numbering {
     Memory,
 }
 
-// Numbers the spots by the nets of boxes. AllByRecursion memory is taken before the first number is written.
+// Numbers the spots by the nets of boxes. All memory is taken before the first number is written.
 fn number_boxes(
     heap: Global,
     boxes: &[Rect],

@@ -77,7 +77,7 @@ impl Region {
         Ok(Region { bands })
     }
 
-    // AllByRecursion squares from a column and a row on.
+    // All squares from a column and a row on.
     pub fn quadrant(heap: Global, left: u64, top: u64) -> Result<Region, AllocError>
         ensures { IfOk result (λ v. (x y : ℕ) → covers v.bands.items x y ≡ (nat_le left x && nat_le top y)) }
     {
@@ -87,7 +87,7 @@ impl Region {
         Ok(Region { bands })
     }
 
-    // AllByRecursion squares that are not in it.
+    // All squares that are not in it.
     pub fn complement(&self, heap: Global) -> Result<Region, AllocError>
         ensures { IfOk result (λ v. (x y : ℕ) → covers v.bands.items x y ≡ not (covers self.now.bands.items x y)) }
     {

@@ -1,12 +1,12 @@
 // Lines of output, built byte by byte, since a message may hold any bytes.
 ghost use Rattle.std.specs.Prelude.{◌≡◌, ◌++◌, IfOk, string_bytes, OnOk};
-ghost use Rattle.report.specs.Outputs.{place_text_lem, broken_line};
+ghost use Rattle.report.specs.Outputs.{place_text, broken_line};
 
 use std::alloc::{AllocError, Global};
 
 // A column and a row, and the line's end.
 fn place_text(heap: Global, x: u64, y: u64) -> Result<String, AllocError>
-    ensures { IfOk result (λ s. string_bytes s ≡ place_text_lem x y) }
+    ensures { IfOk result (λ s. string_bytes s ≡ place_text x y) }
 {
     format!(in heap; ": {x} {y}\n")
 }

@@ -7,9 +7,9 @@ use Rattle.std.specs.Str.{bytes_eq}
 use Rattle.words.specs.Numbers.{number_in, all_digits}
 use Rattle.words.specs.Words.{Token}
 use Rattle.words.specs.Steps.{by_some}
-use Rattle.rule_text.specs.Operators.{operator_of_lem, number_of}
-use Rattle.rule_text.specs.Expressions.{Reading, Found, joins, added, opened, operated, ended, further_in, accept, is_done_lem, region_from}
-use Rattle.rule_text.specs.Regions.{Joint, Tree, and, or, without, layer, two, grown, word_of, kind_of_lem, Spells, count, numbered, ReadsSpelled, ReadsOnlySpelled}
+use Rattle.rule_text.specs.Operators.{operator_of, number_of}
+use Rattle.rule_text.specs.Expressions.{Reading, Found, joins, added, opened, operated, ended, further_in, accept, is_done, region_from}
+use Rattle.rule_text.specs.Regions.{Joint, Tree, and, or, without, layer, two, grown, word_of, kind_of, Spells, count, numbered, ReadsSpelled, ReadsOnlySpelled}
 use Rattle.rule_text.specs.declared.operator.Operator.{Operator}
 use Rattle.rule_text.specs.declared.operator.Operator.TheVariants as operator
 use Rattle.rule_text.specs.declared.expression.Frame.{Frame}
@@ -25,7 +25,7 @@ after fs = cond (eqb (length fs) 0) awaits.Nothing awaits.Further
 
 -- what is read after a word
 abbrev going : Reading → List Token → Option Found
-going z ts = cond (is_done_lem z) (Some (record { nodes = z.nodes; rest = ts })) (region_from z ts)
+going z ts = cond (is_done z) (Some (record { nodes = z.nodes; rest = ts })) (region_from z ts)
 
 step : (e z : Reading) (t : Token) (ts : List Token) → accept e t.bytes ≡ Some z → region_from e (t ∷ ts) ≡ going z ts
 unfolding region_from
@@ -80,7 +80,7 @@ grown-word ns fs w e = further-at fs frame.Open ns w ∙ ap (operated (at_state 
 growth_word : (ns : List ℕ) (fs : List Frame) (w : List ℕ) (n : ℕ) → number_in w ≡ Some n → accept (at_state ns fs awaits.Growth) w ≡ Some (at_state ns (fs ++ frame.Grown n (length ns / 3 - 1) ∷ []) awaits.Further)
 growth_word ns fs w n e = ap (λ o. by_some o None (λ m. Some (at_state ns (fs ++ frame.Grown m (length ns / 3 - 1) ∷ []) awaits.Further))) e
 
-close-two : (ns : List ℕ) (fs : List Frame) (w : List ℕ) (j : Joint) (l : ℕ) → w ≡ codes ")" → accept (at_state ns (fs ++ frame.Two (operator_for j) l ∷ []) awaits.Further) w ≡ Some (at_state (ns ++ (kind_of_lem j ∷ l ∷ (length ns / 3 - 1) ∷ [])) fs (after fs))
+close-two : (ns : List ℕ) (fs : List Frame) (w : List ℕ) (j : Joint) (l : ℕ) → w ≡ codes ")" → accept (at_state ns (fs ++ frame.Two (operator_for j) l ∷ []) awaits.Further) w ≡ Some (at_state (ns ++ (kind_of j ∷ l ∷ (length ns / 3 - 1) ∷ [])) fs (after fs))
 unfolding operator_for
 close-two ns fs w and l e = further-at fs (frame.Two operator.And l) ns w ∙ ap (λ u. ended (at_state ns fs awaits.Further) u (1 ∷ l ∷ (length ns / 3 - 1) ∷ [])) e
 close-two ns fs w or l e = further-at fs (frame.Two operator.Or l) ns w ∙ ap (λ u. ended (at_state ns fs awaits.Further) u (2 ∷ l ∷ (length ns / 3 - 1) ∷ [])) e
@@ -93,7 +93,7 @@ pub long : (k : ℕ) (r : Tree) → length (numbered k r) ≡ 3 * count r
 unfolding numbered count
 long k (layer n) = refl
 long k (two j a b) =
-    omega (arith, length-append (numbered k a ++ numbered (k + count a) b) (kind_of_lem j ∷ (k + count a - 1) ∷ (k + count a + count b - 1) ∷ []), length-append (numbered k a) (numbered (k + count a) b), long k a, long (k + count a) b)
+    omega (arith, length-append (numbered k a ++ numbered (k + count a) b) (kind_of j ∷ (k + count a - 1) ∷ (k + count a + count b - 1) ∷ []), length-append (numbered k a) (numbered (k + count a) b), long k a, long (k + count a) b)
 long k (grown n a) = omega (arith, length-append (numbered k a) (4 ∷ n ∷ (k + count a - 1) ∷ []), long k a)
 
 pub reads : (r : Tree) (ts rest : List Token) (ns : List ℕ) (k : ℕ) (fs : List Frame) → length ns ≡ 3 * k → Spells r ts → region_from (at_state ns fs awaits.Operand) (ts ++ rest) ≡ going (at_state (ns ++ numbered k r) fs (after fs)) rest
@@ -110,10 +110,10 @@ reads (two j a b) ts rest ns k fs h s =
     let right : length nsB / 3 - 1 ≡ k + count a + count b - 1 = omega arith in
     let f = frame.Two (operator_for j) (length nsA / 3 - 1) in
     let words : (as' ++ (q ∷ (bs ++ (r ∷ [])))) ++ rest ≡ as' ++ (q ∷ (bs ++ (r ∷ rest))) = append_assoc as' (q ∷ (bs ++ (r ∷ []))) rest ∙ ap (λ us. as' ++ (q ∷ us)) (append_assoc bs (r ∷ []) rest) in
-    let nodes : nsB ++ (kind_of_lem j ∷ (length nsA / 3 - 1) ∷ (length nsB / 3 - 1) ∷ []) ≡ ns ++ ((numbered k a ++ numbered (k + count a) b) ++ (kind_of_lem j ∷ (k + count a - 1) ∷ (k + count a + count b - 1) ∷ [])) =
-    ap (λ x. nsB ++ (kind_of_lem j ∷ x ∷ (length nsB / 3 - 1) ∷ [])) left ∙ ap (λ x. nsB ++ (kind_of_lem j ∷ (k + count a - 1) ∷ x ∷ [])) right
-    ∙ ap (λ us. us ++ (kind_of_lem j ∷ (k + count a - 1) ∷ (k + count a + count b - 1) ∷ [])) (append_assoc ns (numbered k a) (numbered (k + count a) b))
-    ∙ append_assoc ns (numbered k a ++ numbered (k + count a) b) (kind_of_lem j ∷ (k + count a - 1) ∷ (k + count a + count b - 1) ∷ []) in
+    let nodes : nsB ++ (kind_of j ∷ (length nsA / 3 - 1) ∷ (length nsB / 3 - 1) ∷ []) ≡ ns ++ ((numbered k a ++ numbered (k + count a) b) ++ (kind_of j ∷ (k + count a - 1) ∷ (k + count a + count b - 1) ∷ [])) =
+    ap (λ x. nsB ++ (kind_of j ∷ x ∷ (length nsB / 3 - 1) ∷ [])) left ∙ ap (λ x. nsB ++ (kind_of j ∷ (k + count a - 1) ∷ x ∷ [])) right
+    ∙ ap (λ us. us ++ (kind_of j ∷ (k + count a - 1) ∷ (k + count a + count b - 1) ∷ [])) (append_assoc ns (numbered k a) (numbered (k + count a) b))
+    ∙ append_assoc ns (numbered k a ++ numbered (k + count a) b) (kind_of j ∷ (k + count a - 1) ∷ (k + count a + count b - 1) ∷ []) in
     ap (λ us. region_from (at_state ns fs awaits.Operand) (us ++ rest)) s.5
     ∙ step (at_state ns fs awaits.Operand) (at_state ns (fs ++ frame.Open ∷ []) awaits.Operand) p ((as' ++ (q ∷ (bs ++ (r ∷ [])))) ++ rest) (open_word ns fs p.bytes s.6)
     ∙ ap (region_from (at_state ns (fs ++ frame.Open ∷ []) awaits.Operand)) words
@@ -122,7 +122,7 @@ reads (two j a b) ts rest ns k fs h s =
     ∙ step (at_state nsA (fs ++ frame.Open ∷ []) awaits.Further) (at_state nsA (fs ++ f ∷ []) awaits.Operand) q (bs ++ (r ∷ rest)) (joint_word nsA fs q.bytes j s.8)
     ∙ reads b bs (r ∷ rest) nsA (k + count a) (fs ++ f ∷ []) hA s.9
     ∙ ap (λ x. going (at_state nsB (fs ++ f ∷ []) x) (r ∷ rest)) (after-some fs f)
-    ∙ step (at_state nsB (fs ++ f ∷ []) awaits.Further) (at_state (nsB ++ (kind_of_lem j ∷ (length nsA / 3 - 1) ∷ (length nsB / 3 - 1) ∷ [])) fs (after fs)) r rest (close-two nsB fs r.bytes j (length nsA / 3 - 1) s.10)
+    ∙ step (at_state nsB (fs ++ f ∷ []) awaits.Further) (at_state (nsB ++ (kind_of j ∷ (length nsA / 3 - 1) ∷ (length nsB / 3 - 1) ∷ [])) fs (after fs)) r rest (close-two nsB fs r.bytes j (length nsA / 3 - 1) s.10)
     ∙ ap (λ us. going (at_state us fs (after fs)) rest) nodes
 reads (grown n a) ts rest ns k fs h s =
     let p = s.0 in let as' = s.1 in let q = s.2 in let m = s.3 in let r = s.4 in
@@ -180,7 +180,7 @@ spelled_operator operator.Or = codes "or"
 spelled_operator operator.Without = codes "without"
 spelled_operator operator.Grown = codes "grown"
 
-operator_word : (w : List ℕ) (o : Operator) → operator_of_lem w ≡ Some o → w ≡ spelled_operator o
+operator_word : (w : List ℕ) (o : Operator) → operator_of w ≡ Some o → w ≡ spelled_operator o
 operator_word w o e = elim (cases_Bool (bytes_eq w (codes "and"))) [
   | inl a ↦
       let q : operator.And ≡ o = same_some (sym (ap (λ b. cond b (Some operator.And) (cond (bytes_eq w (codes "or")) (Some operator.Or) (cond (bytes_eq w (codes "without")) (Some operator.Without) (cond (bytes_eq w (codes "grown")) (Some operator.Grown) None)))) a) ∙ e) in
@@ -232,7 +232,7 @@ closes ns fs g node (t ∷ ts) f k h =
       | inr p ↦ absurd (stops (at_state ns (fs ++ g ∷ []) awaits.Further) t ts f (at ∙ ap (λ b. cond b (Some (added (at_state ns fs awaits.Further) node)) None) p) h)
     ]
 
-two-nodes : (ns : List ℕ) (k : ℕ) (j : Joint) (a b : Tree) → length ns ≡ 3 * k → (((ns ++ numbered k a) ++ numbered (k + count a) b) ++ (kind_of_lem j ∷ (length (ns ++ numbered k a) / 3 - 1) ∷ (length ((ns ++ numbered k a) ++ numbered (k + count a) b) / 3 - 1) ∷ [])) ≡ ns ++ numbered k (two j a b)
+two-nodes : (ns : List ℕ) (k : ℕ) (j : Joint) (a b : Tree) → length ns ≡ 3 * k → (((ns ++ numbered k a) ++ numbered (k + count a) b) ++ (kind_of j ∷ (length (ns ++ numbered k a) / 3 - 1) ∷ (length ((ns ++ numbered k a) ++ numbered (k + count a) b) / 3 - 1) ∷ [])) ≡ ns ++ numbered k (two j a b)
 unfolding numbered
 two-nodes ns k j a b h =
     let nsA = ns ++ numbered k a in
@@ -241,9 +241,9 @@ two-nodes ns k j a b h =
     let hB : length nsB ≡ 3 * (k + count a + count b) = omega (arith, length-append nsA (numbered (k + count a) b), long (k + count a) b) in
     let left : length nsA / 3 - 1 ≡ k + count a - 1 = omega arith in
     let right : length nsB / 3 - 1 ≡ k + count a + count b - 1 = omega arith in
-    ap (λ x. nsB ++ (kind_of_lem j ∷ x ∷ (length nsB / 3 - 1) ∷ [])) left ∙ ap (λ x. nsB ++ (kind_of_lem j ∷ (k + count a - 1) ∷ x ∷ [])) right
-    ∙ ap (λ us. us ++ (kind_of_lem j ∷ (k + count a - 1) ∷ (k + count a + count b - 1) ∷ [])) (append_assoc ns (numbered k a) (numbered (k + count a) b))
-    ∙ append_assoc ns (numbered k a ++ numbered (k + count a) b) (kind_of_lem j ∷ (k + count a - 1) ∷ (k + count a + count b - 1) ∷ [])
+    ap (λ x. nsB ++ (kind_of j ∷ x ∷ (length nsB / 3 - 1) ∷ [])) left ∙ ap (λ x. nsB ++ (kind_of j ∷ (k + count a - 1) ∷ x ∷ [])) right
+    ∙ ap (λ us. us ++ (kind_of j ∷ (k + count a - 1) ∷ (k + count a + count b - 1) ∷ [])) (append_assoc ns (numbered k a) (numbered (k + count a) b))
+    ∙ append_assoc ns (numbered k a ++ numbered (k + count a) b) (kind_of j ∷ (k + count a - 1) ∷ (k + count a + count b - 1) ∷ [])
 
 grown-nodes : (ns : List ℕ) (k n : ℕ) (a : Tree) → length ns ≡ 3 * k → ((ns ++ numbered k a) ++ (4 ∷ n ∷ (length (ns ++ numbered k a) / 3 - 1) ∷ [])) ≡ ns ++ numbered k (grown n a)
 unfolding numbered
@@ -253,7 +253,7 @@ grown-nodes ns k n a h =
     let left : length nsA / 3 - 1 ≡ k + count a - 1 = omega arith in
     ap (λ x. nsA ++ (4 ∷ n ∷ x ∷ [])) left ∙ append_assoc ns (numbered k a) (4 ∷ n ∷ (k + count a - 1) ∷ [])
 
-operator_number : (j : Joint) → number_of (operator_for j) ≡ kind_of_lem j
+operator_number : (j : Joint) → number_of (operator_for j) ≡ kind_of j
 unfolding operator_for
 operator_number and = refl
 operator_number or = refl
@@ -274,7 +274,7 @@ module _ (n : ℕ) (read-on : (ts : List Token) (ns : List ℕ) (k : ℕ) (fs : 
       let d = read-on rest nsA (k + count c.tree) (fs ++ g ∷ []) f few hA (goes_on (at_state nsA (fs ++ frame.Open ∷ []) awaits.Further) (at_state nsA (fs ++ g ∷ []) awaits.Operand) q rest f (joint_word nsA fs q.bytes j w) e) in
       let nsB = nsA ++ numbered (k + count c.tree) d.tree in
       let e4 : region_from (at_state nsB (fs ++ g ∷ []) awaits.Further) d.rest ≡ Some f = sym (ap (λ x. going (at_state nsB (fs ++ g ∷ []) x) d.rest) (after-some fs g)) ∙ d.goes in
-      let z = closes nsB fs g (kind_of_lem j ∷ m ∷ (length nsB / 3 - 1) ∷ []) d.rest f (λ u. ap (λ x. ended (at_state nsB fs awaits.Further) u (x ∷ m ∷ (length nsB / 3 - 1) ∷ [])) (operator_number j)) e4 in
+      let z = closes nsB fs g (kind_of j ∷ m ∷ (length nsB / 3 - 1) ∷ []) d.rest f (λ u. ap (λ x. ended (at_state nsB fs awaits.Further) u (x ∷ m ∷ (length nsB / 3 - 1) ∷ [])) (operator_number j)) e4 in
       let xs = c.used in let ys = d.used in let r = z.close in
       let words : (xs ++ (q ∷ (ys ++ (r ∷ [])))) ++ z.left ≡ xs ++ (q ∷ (ys ++ (r ∷ z.left))) = append_assoc xs (q ∷ (ys ++ (r ∷ []))) z.left ∙ ap (λ us. xs ++ (q ∷ us)) (append_assoc ys (r ∷ []) z.left) in
       record {
@@ -311,7 +311,7 @@ module _ (n : ℕ) (read-on : (ts : List Token) (ns : List ℕ) (k : ℕ) (fs : 
             goes = sym (ap (λ vs. going (at_state vs fs (after fs)) z.left) (grown-nodes ns k i c.tree h)) ∙ z.goes;
           }
 
-  operator-came : (o : Option Operator) → operator_of_lem q.bytes ≡ o → region_from (at_state (ns ++ numbered k c.tree) (fs ++ frame.Open ∷ []) awaits.Further) (q ∷ rest) ≡ Some f → Came (t ∷ ts) ns k fs f
+  operator-came : (o : Option Operator) → operator_of q.bytes ≡ o → region_from (at_state (ns ++ numbered k c.tree) (fs ++ frame.Open ∷ []) awaits.Further) (q ∷ rest) ≡ Some f → Came (t ∷ ts) ns k fs f
   unfolding nsA
   operator-came None p e =
       absurd (stops (at_state nsA (fs ++ frame.Open ∷ []) awaits.Further) q rest f (further-at fs frame.Open nsA q.bytes ∙ ap (λ o. by_some o None (λ u. Some (joins (at_state nsA fs awaits.Further) u))) p) e)
@@ -336,7 +336,7 @@ layer-came t ts ns k fs f p (Some l) q e = record {
 
 open_came : (n : ℕ) → ((ts : List Token) (ns : List ℕ) (k : ℕ) (fs : List Frame) (f : Found) → length ts ≤ n → length ns ≡ 3 * k → region_from (at_state ns fs awaits.Operand) ts ≡ Some f → Came ts ns k fs f) → (t : Token) (ts : List Token) (ns : List ℕ) (k : ℕ) (fs : List Frame) (f : Found) → t.bytes ≡ codes "(" → length ts ≤ n → length ns ≡ 3 * k → (c : Came ts ns k (fs ++ frame.Open ∷ []) f) → (us : List Token) → c.rest ≡ us → region_from (at_state (ns ++ numbered k c.tree) (fs ++ frame.Open ∷ []) awaits.Further) us ≡ Some f → Came (t ∷ ts) ns k fs f
 open_came n rec t ts ns k fs f w l h c [] q e = absurd (none_read _ f e)
-open_came n rec t ts ns k fs f w l h c (v ∷ us) q e = operator-came n rec t w ts l ns k fs f h c v us q (operator_of_lem v.bytes) refl e
+open_came n rec t ts ns k fs f w l h c (v ∷ us) q e = operator-came n rec t w ts l ns k fs f h c v us q (operator_of v.bytes) refl e
 
 -- by how many words are left
 came : (n : ℕ) (ts : List Token) (ns : List ℕ) (k : ℕ) (fs : List Frame) (f : Found) → length ts ≤ n → length ns ≡ 3 * k → region_from (at_state ns fs awaits.Operand) ts ≡ Some f → Came ts ns k fs f

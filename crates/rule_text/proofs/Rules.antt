@@ -7,7 +7,7 @@ use Rattle.words.specs.Words.{Token, token_at}
 use Rattle.words.specs.declared.word.Word.{Word}
 use Rattle.words.specs.Steps.{by_some}
 use Rattle.rule_text.specs.Rules.{Counted, Rule, number_first, last_end, message_of, after_kind, rule_in, RuleRead}
-use Rattle.rule_text.specs.Operators.{rule_kind_of_lem}
+use Rattle.rule_text.specs.Operators.{rule_kind_of}
 use Rattle.rule_text.specs.declared.operator.RuleKind.{RuleKind}
 use Rattle.rule_text.specs.declared.rule.RuleText.{RuleText}
 
@@ -65,16 +65,16 @@ module _ (text : List ℕ) (ws : List Word) (line : ℕ) where
   no-rule h = ap (λ ts. rule_in text ts line) (none_left text ws 0 (omega arith))
 
   module _ (d : Word) (b : List ℕ) (here : 0 < length ws) (bytes : b ≡ (token_at text (get_or ws 0 d)).bytes) where
-    first_word : rule_in text (map (token_at text) ws) line ≡ by_some (rule_kind_of_lem b) None (after_kind text (drop 1 (map (token_at text) ws)) line)
+    first_word : rule_in text (map (token_at text) ws) line ≡ by_some (rule_kind_of b) None (after_kind text (drop 1 (map (token_at text) ws)) line)
     first_word =
         ap (λ ts. rule_in text ts line) (first-left text ws 0 d here)
-        ∙ ap (λ u. by_some (rule_kind_of_lem u) None (after_kind text (drop 1 (map (token_at text) ws)) line)) (sym bytes)
+        ∙ ap (λ u. by_some (rule_kind_of u) None (after_kind text (drop 1 (map (token_at text) ws)) line)) (sym bytes)
 
-    pub rule-some : (k : RuleKind) (o : Option RuleText) → Some k ≡ rule_kind_of_lem b → RuleRead (after_kind text (drop 1 (map (token_at text) ws)) line k) o → RuleRead (rule_in text (map (token_at text) ws) line) o
+    pub rule-some : (k : RuleKind) (o : Option RuleText) → Some k ≡ rule_kind_of b → RuleRead (after_kind text (drop 1 (map (token_at text) ws)) line k) o → RuleRead (rule_in text (map (token_at text) ws) line) o
     rule-some k o e h =
         let same : rule_in text (map (token_at text) ws) line ≡ after_kind text (drop 1 (map (token_at text) ws)) line k =
         first_word ∙ ap (λ u. by_some u None (after_kind text (drop 1 (map (token_at text) ws)) line)) (sym e) in
         subst (λ (m : Option Rule). RuleRead m o) (sym same) h
 
-    pub rule-none : None ≡ rule_kind_of_lem b → rule_in text (map (token_at text) ws) line ≡ None
+    pub rule-none : None ≡ rule_kind_of b → rule_in text (map (token_at text) ws) line ≡ None
     rule-none e = first_word ∙ ap (λ u. by_some u None (after_kind text (drop 1 (map (token_at text) ws)) line)) (sym e)

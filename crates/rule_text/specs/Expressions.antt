@@ -4,7 +4,7 @@ use Rattle.std.specs.Str.{bytes_eq}
 use Rattle.words.specs.Numbers.{number_in}
 use Rattle.words.specs.Words.{Token}
 use Rattle.words.specs.Steps.{by_some}
-use Rattle.rule_text.specs.Operators.{operator_of_lem, number_of}
+use Rattle.rule_text.specs.Operators.{operator_of, number_of}
 use Rattle.rule_text.specs.declared.operator.Operator.{Operator}
 use Rattle.rule_text.specs.declared.operator.Operator.TheVariants as operator
 use Rattle.rule_text.specs.declared.expression.Frame.{Frame}
@@ -23,15 +23,15 @@ pub record Reading : Type 0 where
 abbrev pub expression_of : Expression → Reading
 expression_of e = record { nodes = vec_items e.nodes; frames = vec_items e.frames; next = e.awaits }
 
-abbrev pub last_node_lem : Reading → ℕ
-last_node_lem e = length e.nodes / 3 - 1
+abbrev pub last_node : Reading → ℕ
+last_node e = length e.nodes / 3 - 1
 
 -- a region is at its end where no parenthesis is open
-abbrev pub after_operand_lem : Reading → Awaits
-after_operand_lem e = cond (length e.frames == 0) awaits.Nothing awaits.Further
+abbrev pub after_operand : Reading → Awaits
+after_operand e = cond (length e.frames == 0) awaits.Nothing awaits.Further
 
 abbrev pub added : Reading → List ℕ → Reading
-added e node = record { nodes = e.nodes ++ node; frames = e.frames; next = after_operand_lem e }
+added e node = record { nodes = e.nodes ++ node; frames = e.frames; next = after_operand e }
 
 abbrev pub opened : Reading → Frame → Reading
 opened e f = record { nodes = e.nodes; frames = e.frames ++ f ∷ []; next = e.next }
@@ -44,16 +44,16 @@ abbrev pub operand : Reading → List ℕ → Option Reading
 operand e w = cond (bytes_eq w (codes "(")) (Some (opened e frame.Open)) (by_some (number_in w) None (λ l. Some (added e (0 ∷ l ∷ 0 ∷ []))))
 
 abbrev pub grew : Reading → List ℕ → Option Reading
-grew e w = by_some (number_in w) None (λ n. Some (awaiting (opened e (frame.Grown n (last_node_lem e))) awaits.Further))
+grew e w = by_some (number_in w) None (λ n. Some (awaiting (opened e (frame.Grown n (last_node e))) awaits.Further))
 
 abbrev pub joins : Reading → Operator → Reading
-joins e operator.And = awaiting (opened e (frame.Two operator.And (last_node_lem e))) awaits.Operand
-joins e operator.Or = awaiting (opened e (frame.Two operator.Or (last_node_lem e))) awaits.Operand
-joins e operator.Without = awaiting (opened e (frame.Two operator.Without (last_node_lem e))) awaits.Operand
+joins e operator.And = awaiting (opened e (frame.Two operator.And (last_node e))) awaits.Operand
+joins e operator.Or = awaiting (opened e (frame.Two operator.Or (last_node e))) awaits.Operand
+joins e operator.Without = awaiting (opened e (frame.Two operator.Without (last_node e))) awaits.Operand
 joins e operator.Grown = awaiting e awaits.Growth
 
 abbrev pub operated : Reading → List ℕ → Option Reading
-operated e w = by_some (operator_of_lem w) None (λ o. Some (joins e o))
+operated e w = by_some (operator_of w) None (λ o. Some (joins e o))
 
 abbrev pub ended : Reading → List ℕ → List ℕ → Option Reading
 ended e w node = cond (bytes_eq w (codes ")")) (Some (added e node)) None
@@ -67,7 +67,7 @@ closed e = record { nodes = e.nodes; frames = take (length e.frames - 1) e.frame
 
 abbrev pub further_in : Reading → List ℕ → Frame → Option Reading
 further_in e w frame.Open = operated e w
-further_in e w (frame.Two o l) = ended e w (number_of o ∷ l ∷ last_node_lem e ∷ [])
+further_in e w (frame.Two o l) = ended e w (number_of o ∷ l ∷ last_node e ∷ [])
 further_in e w (frame.Grown n a) = ended e w (4 ∷ n ∷ a ∷ [])
 
 abbrev pub further : Reading → List ℕ → Option Reading
@@ -89,8 +89,8 @@ nothing_next awaits.Growth = false
 nothing_next awaits.Further = false
 nothing_next awaits.Nothing = true
 
-abbrev pub is_done_lem : Reading → Bool
-is_done_lem e = nothing_next e.next
+abbrev pub is_done : Reading → Bool
+is_done e = nothing_next e.next
 
 -- the nodes of a region, and the words after it
 pub record Found : Type 0 where
@@ -99,7 +99,7 @@ pub record Found : Type 0 where
 
 unfoldable pub region_from : Reading → List Token → Option Found
 region_from e [] = None
-region_from e (t ∷ ts) = by_some (accept e t.bytes) None (λ z. cond (is_done_lem z) (Some (record { nodes = z.nodes; rest = ts })) (region_from z ts))
+region_from e (t ∷ ts) = by_some (accept e t.bytes) None (λ z. cond (is_done z) (Some (record { nodes = z.nodes; rest = ts })) (region_from z ts))
 
 -- a region whose nodes come after others
 abbrev pub region_in : List ℕ → List Token → Option Found

@@ -6,8 +6,8 @@ use Rattle.rule_text.specs.declared.operator.Operator.TheVariants.{And, Or, With
 use Rattle.rule_text.specs.declared.operator.RuleKind.{RuleKind}
 use Rattle.rule_text.specs.declared.operator.RuleKind.TheVariants.{Wide, Apart, Inside, Never}
 
-abbrev pub operator_of_lem : List ℕ → Option Operator
-operator_of_lem w =
+abbrev pub operator_of : List ℕ → Option Operator
+operator_of w =
     cond (bytes_eq w (codes "and")) (Some And)
     (cond (bytes_eq w (codes "or")) (Some Or)
     (cond (bytes_eq w (codes "without")) (Some Without)
@@ -20,8 +20,8 @@ number_of Or = 2
 number_of Without = 3
 number_of Grown = 4
 
-abbrev pub rule_kind_of_lem : List ℕ → Option RuleKind
-rule_kind_of_lem w =
+abbrev pub rule_kind_of : List ℕ → Option RuleKind
+rule_kind_of w =
     cond (bytes_eq w (codes "wide")) (Some Wide)
     (cond (bytes_eq w (codes "apart")) (Some Apart)
     (cond (bytes_eq w (codes "inside")) (Some Inside)

@@ -18,10 +18,10 @@ word_of and = codes "and"
 word_of or = codes "or"
 word_of without = codes "without"
 
-abbrev pub kind_of_lem : Joint → ℕ
-kind_of_lem and = 1
-kind_of_lem or = 2
-kind_of_lem without = 3
+abbrev pub kind_of : Joint → ℕ
+kind_of and = 1
+kind_of or = 2
+kind_of without = 3
 
 -- the words of a region: its operands in parentheses
 unfoldable pub Spells : Tree → List Token → Type 0
@@ -43,7 +43,7 @@ count (grown n a) = count a + 1
 
 unfoldable pub numbered : ℕ → Tree → List ℕ
 numbered k (layer n) = 0 ∷ n ∷ 0 ∷ []
-numbered k (two j a b) = (numbered k a ++ numbered (k + count a) b) ++ (kind_of_lem j ∷ (k + count a - 1) ∷ (k + count a + count b - 1) ∷ [])
+numbered k (two j a b) = (numbered k a ++ numbered (k + count a) b) ++ (kind_of j ∷ (k + count a - 1) ∷ (k + count a + count b - 1) ∷ [])
 numbered k (grown n a) = numbered k a ++ (4 ∷ n ∷ (k + count a - 1) ∷ [])
 
 -- a region that is spelled is read as its nodes, up to its end and no further

@@ -4,7 +4,7 @@ use Rattle.std.specs.List.{between}
 use Rattle.words.specs.Numbers.{number_in}
 use Rattle.words.specs.Words.{Token}
 use Rattle.words.specs.Steps.{by_some}
-use Rattle.rule_text.specs.Operators.{rule_kind_of_lem}
+use Rattle.rule_text.specs.Operators.{rule_kind_of}
 use Rattle.rule_text.specs.Expressions.{Found, region_in}
 use Rattle.rule_text.specs.declared.operator.RuleKind.{RuleKind}
 use Rattle.rule_text.specs.declared.operator.RuleKind.TheVariants.{Wide, Apart, Inside, Never}
@@ -80,7 +80,7 @@ after_kind text ts line k =
 -- the rule that the words of a line are
 abbrev pub rule_in : List ℕ → List Token → ℕ → Option Rule
 rule_in text [] line = None
-rule_in text (t ∷ ts) line = by_some (rule_kind_of_lem t.bytes) None (after_kind text ts line)
+rule_in text (t ∷ ts) line = by_some (rule_kind_of t.bytes) None (after_kind text ts line)
 
 abbrev pub RuleRead : Option Rule → Option RuleText → Type 0
 RuleRead m None = m ≡ None

@@ -1,7 +1,7 @@
 // Regions as they are written, read word by word into nodes of three numbers.
 ghost use Rattle.std.specs.Prelude.{◌≡◌, ◌-◌, ◌/◌, map, drop, IfOk, OnOk};
 ghost use Rattle.words.specs.Words.{token_at};
-ghost use Rattle.rule_text.specs.Expressions.{last_node_lem, after_operand_lem, added, operand, operated, grew, ended, further, accept, is_done_lem, region_in, expression_of, Takes, RegionRead};
+ghost use Rattle.rule_text.specs.Expressions.{last_node, after_operand, added, operand, operated, grew, ended, further, accept, is_done, region_in, expression_of, Takes, RegionRead};
 
 use super::operator::{Operator, operator_of};
 use std::alloc::{AllocError, Global};
@@ -42,7 +42,7 @@ pub(crate) struct Expression {
 impl Expression {
     /// The number of the last node.
     fn last_node(&self) -> u64
-        ensures { result ≡ last_node_lem (expression_of self.now) }
+        ensures { result ≡ last_node (expression_of self.now) }
     {
         let count = (self.nodes.len() / 3) as u64;
         count.saturating_sub(1)
@@ -58,7 +58,7 @@ impl Expression {
     }
 
     fn after_operand(&self) -> Awaits
-        ensures { result ≡ after_operand_lem (expression_of self.now) }
+        ensures { result ≡ after_operand (expression_of self.now) }
     {
         if self.frames.is_empty() {
             Awaits::Nothing
@@ -169,7 +169,7 @@ impl Expression {
     }
 
     fn is_done(&self) -> bool
-        ensures { result ≡ is_done_lem (expression_of self.now) }
+        ensures { result ≡ is_done (expression_of self.now) }
     {
         match self.awaits {
             Awaits::Nothing => true,

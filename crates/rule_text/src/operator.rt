@@ -1,6 +1,6 @@
 // The words between the operands of a region, and those that begin a rule.
 ghost use Rattle.std.specs.Prelude.{◌≡◌};
-ghost use Rattle.rule_text.specs.Operators.{operator_of_lem, number_of, rule_kind_of_lem, rule_number};
+ghost use Rattle.rule_text.specs.Operators.{operator_of, number_of, rule_kind_of, rule_number};
 
 use words::word::same;
 
@@ -14,7 +14,7 @@ pub(crate) enum Operator {
 
 /// The operator that a word is.
 pub(crate) fn operator_of(word: &[u8]) -> Option<Operator>
-    ensures { result ≡ operator_of_lem word.now }
+    ensures { result ≡ operator_of word.now }
 {
     if same(word, b"and") {
         return Some(Operator::And);
@@ -56,7 +56,7 @@ pub enum RuleKind {
 
 /// The rule that a word begins.
 pub(crate) fn rule_kind_of(word: &[u8]) -> Option<RuleKind>
-    ensures { result ≡ rule_kind_of_lem word.now }
+    ensures { result ≡ rule_kind_of word.now }
 {
     if same(word, b"wide") {
         return Some(RuleKind::Wide);

@@ -5,7 +5,7 @@ use Rattle.std.specs.List.{AllByRecursion}
 use Rattle.std.proofs.ByRecursion.{All-get_or}
 use Rattle.std.proofs.lemmas.Bool.{cases_lt, cases_order, le-leb, lt-leb, eqb-true, eqb-false, false≢true}
 use Rattle.std.specs.Option.{option_to_list}
-use Rattle.scanline.specs.Lines.{differ, inside, Sorted, MovedRight, MovedLeft, ends_in_lem, Toggled}
+use Rattle.scanline.specs.Lines.{differ, inside, Sorted, MovedRight, MovedLeft, ends_in, Toggled}
 use Rattle.scanline.proofs.Merge.{From, rises-from, from-rises, Between, between-from, between-push, between_more, inside-push, inside-before, differ-false}
 use Rattle.scanline.proofs.Widens.{Below, still-below, inside-append}
 
@@ -91,7 +91,7 @@ pub left-none : (n : ℕ) (es : List ℕ) → Sorted es → Lefting n es [] 0
 left-none n es h = record { low = 0; from = rises-from 0 es h; between = omega arith; is = λ x. refl }
 
 -- below e, if e is not the last
-between-not : (p e : ℕ) (es : List ℕ) → Between p (suc e) es → ends_in_lem e es ≡ false → p ≤ e → Between p e es
+between-not : (p e : ℕ) (es : List ℕ) → Between p (suc e) es → ends_in e es ≡ false → p ≤ e → Between p e es
 between-not p e [] h n l = l
 between-not p e (f ∷ []) h n l = let k = eqb-false f e n in (h.0, elim (cases_order f e) [ inl q ↦ absurd (k q) | inr q ↦ elim q [ inl r ↦ r | inr r ↦ absurd (omega (arith, h.1)) ] ])
 between-not p e (f ∷ g ∷ gs) h n l = (h.0, between-not (suc f) e (g ∷ gs) h.1 n (between-low (suc f) e g gs h.1))
@@ -137,23 +137,23 @@ left-all n es out i l h = (
 )
 
 -- the last edge
-pub ends_last : (e : ℕ) (es : List ℕ) → 0 < length es → eqb (get_or es (length es - 1) 0) e ≡ ends_in_lem e es
+pub ends_last : (e : ℕ) (es : List ℕ) → 0 < length es → eqb (get_or es (length es - 1) 0) e ≡ ends_in e es
 ends_last e [] l = absurd (omega arith)
 ends_last e (f ∷ []) l = refl
 ends_last e (f ∷ g ∷ gs) l =
     let i : length (f ∷ g ∷ gs) - 1 ≡ suc (length (g ∷ gs) - 1) = omega arith in
     ap (λ j. eqb (get_or (f ∷ g ∷ gs) j 0) e) i ∙ ends_last e (g ∷ gs) (omega arith)
 
-pub ends-push : (es : List ℕ) (v e : ℕ) → ends_in_lem e (es ++ v ∷ []) ≡ true → v ≡ e
+pub ends-push : (es : List ℕ) (v e : ℕ) → ends_in e (es ++ v ∷ []) ≡ true → v ≡ e
 ends-push [] v e h = eqb-true v e h
 ends-push (f ∷ []) v e h = eqb-true v e h
 ends-push (f ∷ g ∷ gs) v e h = ends-push (g ∷ gs) v e h
 
-pub ends_some : (es : List ℕ) (e : ℕ) → ends_in_lem e es ≡ true → 0 < length es
+pub ends_some : (es : List ℕ) (e : ℕ) → ends_in e es ≡ true → 0 < length es
 ends_some [] e h = absurd (false≢true h)
 ends_some (f ∷ fs) e h = omega arith
 
 -- the last edge taken off
-pub popped : (es fs : List ℕ) (r : Option ℕ) (e : ℕ) → ends_in_lem e es ≡ true → es ≡ fs ++ option_to_list r → is_some r ≡ true → es ≡ fs ++ e ∷ []
+pub popped : (es fs : List ℕ) (r : Option ℕ) (e : ℕ) → ends_in e es ≡ true → es ≡ fs ++ option_to_list r → is_some r ≡ true → es ≡ fs ++ e ∷ []
 popped es fs None e h q s = absurd (false≢true s)
-popped es fs (Some v) e h q s = q ∙ ap (λ w. fs ++ w ∷ []) (ends-push fs v e (ap (ends_in_lem e) (sym q) ∙ h))
+popped es fs (Some v) e h q s = q ∙ ap (λ w. fs ++ w ∷ []) (ends-push fs v e (ap (ends_in e) (sym q) ∙ h))

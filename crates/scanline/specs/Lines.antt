@@ -80,11 +80,11 @@ reached e [] = false
 reached e (f ∷ fs) = nat_le f e
 
 -- whether e is the last edge
-abbrev pub ends_in_lem : ℕ → List ℕ → Bool
-ends_in_lem e [] = false
-ends_in_lem e (f ∷ []) = f == e
-ends_in_lem e (f ∷ g ∷ gs) = ends_in_lem e (g ∷ gs)
+abbrev pub ends_in : ℕ → List ℕ → Bool
+ends_in e [] = false
+ends_in e (f ∷ []) = f == e
+ends_in e (f ∷ g ∷ gs) = ends_in e (g ∷ gs)
 
 -- `after` is `before` with an edge more at the end, or one fewer where it stands there
 abbrev pub Toggled : ℕ → List ℕ → List ℕ → Type 0
-Toggled e before after = ((ends_in_lem e before ≡ true) × (before ≡ after ++ e ∷ [])) ⊎ ((ends_in_lem e before ≡ false) × (after ≡ before ++ e ∷ []))
+Toggled e before after = ((ends_in e before ≡ true) × (before ≡ after ++ e ∷ [])) ⊎ ((ends_in e before ≡ false) × (after ≡ before ++ e ∷ []))

@@ -1,6 +1,6 @@
 // Lines moved to the right and to the left.
 ghost use Rattle.std.specs.Prelude.{◌≡◌, IfOk, OnOk};
-ghost use Rattle.scanline.specs.Lines.{Sorted, MovedRight, MovedLeft, ends_in_lem, Toggled};
+ghost use Rattle.scanline.specs.Lines.{Sorted, MovedRight, MovedLeft, ends_in, Toggled};
 
 use std::alloc::{AllocError, Global};
 
@@ -21,7 +21,7 @@ pub fn shift_edges_right(heap: Global, edges: &[u64], by: u64) -> Result<Vec<u64
 
 // Whether `edge` is the last one.
 fn ends_in(edges: &[u64], edge: u64) -> bool
-    ensures { result ≡ ends_in_lem edge edges.now }
+    ensures { result ≡ ends_in edge edges.now }
 {
     match edges {
         [.., last] => *last == edge,

@@ -7,8 +7,8 @@ use Rattle.words.specs.Lines.{last_line}
 use Rattle.words.specs.Words.{Token, words_of}
 use Rattle.words.specs.declared.word.Marks.TheVariants.{Braces}
 use Rattle.words.specs.Steps.{by_some, and_then}
-use Rattle.text.specs.Keywords.{keyword_of_lem, slots, slot_at, statement_of}
-use Rattle.text.specs.Readings.{State, start, finished, said_in, inside, may_begin_lem, value_of, closed_by_lem, completed, waiting, settled, fresh, begin, noted, valued, go_on, accept, read}
+use Rattle.text.specs.Keywords.{keyword_of, slots, slot_at, statement_of}
+use Rattle.text.specs.Readings.{State, start, finished, said_in, inside, may_begin, value_of, closed_by, completed, waiting, settled, fresh, begin, noted, valued, go_on, accept, read}
 use Rattle.text.proofs.Cells.{NamesEnded, ends, AllEnded}
 use Rattle.text.specs.declared.keyword.Keyword.{Keyword}
 use Rattle.text.specs.declared.keyword.Slot.{Slot}
@@ -17,20 +17,20 @@ use Rattle.text.specs.declared.keyword.Slot.TheVariants as slot
 use Rattle.text.specs.declared.statement.Said.{Said}
 
 -- how many cells end
-pub ends_in_lem : List Said → ℕ
-ends_in_lem [] = 0
-ends_in_lem (t ∷ ts) = ends t.statement + ends_in_lem ts
+pub ends_in : List Said → ℕ
+ends_in [] = 0
+ends_in (t ∷ ts) = ends t.statement + ends_in ts
 
-ends-push : (ss : List Said) (x : Said) → ends_in_lem (ss ++ x ∷ []) ≡ ends_in_lem ss + ends x.statement
-unfolding ends_in_lem
+ends-push : (ss : List Said) (x : Said) → ends_in (ss ++ x ∷ []) ≡ ends_in ss + ends x.statement
+unfolding ends_in
 ends-push [] x = omega arith
 ends-push (t ∷ ts) x = omega (arith, ends-push ts x)
 
-ended-push : (n : ℕ) (ss : List Said) (x : Said) → AllEnded n ss → NamesEnded (n + ends_in_lem ss) x.statement → AllEnded n (ss ++ x ∷ [])
-unfolding ends_in_lem AllEnded
+ended-push : (n : ℕ) (ss : List Said) (x : Said) → AllEnded n ss → NamesEnded (n + ends_in ss) x.statement → AllEnded n (ss ++ x ∷ [])
+unfolding ends_in AllEnded
 ended-push n [] x h w = let e : n + 0 ≡ n = omega arith in (subst (λ (u : ℕ). NamesEnded u x.statement) e w, tt)
 ended-push n (t ∷ ts) x h w =
-    let e : n + (ends t.statement + ends_in_lem ts) ≡ n + ends t.statement + ends_in_lem ts = omega arith in
+    let e : n + (ends t.statement + ends_in ts) ≡ n + ends t.statement + ends_in ts = omega arith in
     (h.0, ended-push (n + ends t.statement) ts x h.1 (subst (λ (u : ℕ). NamesEnded u x.statement) e w))
 
 -- a put that has named its cell
@@ -60,14 +60,14 @@ Fin key.Pin c vs b = Unit {0}
 
 pub record Sane (s : State) : Type 0 where
   pub ended : AllEnded 0 s.said
-  pub count : s.closed ≡ ends_in_lem s.said
+  pub count : s.closed ≡ ends_in s.said
   pub half : Half s.begun s.closed s.values
 
-module _ (s : State) (ended : AllEnded 0 s.said) (count : s.closed ≡ ends_in_lem s.said) where
-  done-sane : (k : Keyword) → NamesEnded s.closed (statement_of k s.values) → closed_by_lem s k ≡ s.closed + ends (statement_of k s.values) → Sane (completed s k)
+module _ (s : State) (ended : AllEnded 0 s.said) (count : s.closed ≡ ends_in s.said) where
+  done-sane : (k : Keyword) → NamesEnded s.closed (statement_of k s.values) → closed_by s k ≡ s.closed + ends (statement_of k s.values) → Sane (completed s k)
   done-sane k w c =
       let x : Said = record { statement = statement_of k s.values; line = s.line } in
-      let e : s.closed ≡ 0 + ends_in_lem s.said = omega arith in
+      let e : s.closed ≡ 0 + ends_in s.said = omega arith in
       record { ended = ended-push 0 s.said x ended (subst (λ (u : ℕ). NamesEnded u (statement_of k s.values)) e w); count = c ∙ omega (arith, ends-push s.said x); half = tt }
 
   completed-sane : (k : Keyword) → Fin k s.closed s.values (inside s) → Sane (completed s k)
@@ -101,7 +101,7 @@ fresh-half key.Row c = tt
 fresh-half key.Column c = tt
 fresh-half key.Pin c = tt
 
-fresh-fin : (s : State) (k : Keyword) → may_begin_lem s k ≡ true → length (slots k) ≤ 0 → Fin k s.closed [] (inside s)
+fresh-fin : (s : State) (k : Keyword) → may_begin s k ≡ true → length (slots k) ≤ 0 → Fin k s.closed [] (inside s)
 fresh-fin s key.Box m h = tt
 fresh-fin s key.Cell m h = tt
 fresh-fin s key.Close m h = m
@@ -118,9 +118,9 @@ same_ok e = cc
 never-ok : {n : ℕ} {b : State} → ◌≡◌ {A = Result State ℕ} (Err n) (Ok b) → ⊥
 never-ok e = let z : ◌≡◌ {A = ℕ} 0 1 = cc in omega arith
 
-begin-by : (s z : State) (n : ℕ) → Sane s → (o : Option Keyword) → by_some o (Err n) (λ k. cond (may_begin_lem s k) (Ok (settled (fresh s n) k)) (Err n)) ≡ Ok z → Sane z
+begin-by : (s z : State) (n : ℕ) → Sane s → (o : Option Keyword) → by_some o (Err n) (λ k. cond (may_begin s k) (Ok (settled (fresh s n) k)) (Err n)) ≡ Ok z → Sane z
 begin-by s z n h None e = absurd (never-ok e)
-begin-by s z n h (Some k) e = elim (cases_Bool (may_begin_lem s k)) [
+begin-by s z n h (Some k) e = elim (cases_Bool (may_begin s k)) [
   | inl t ↦
       let same : settled (fresh s n) k ≡ z = same_ok (sym (ap (λ b. cond b (Ok (settled (fresh s n) k)) (Err n)) t) ∙ e) in
       subst Sane same (settle-sane (fresh s n) h.ended h.count k (fresh-half k s.closed) (fresh-fin s k t))
@@ -203,7 +203,7 @@ slot_by s z k w n h b None q t = absurd (never-ok t)
 slot_by s z k w n h b (Some p) q t = value-by s z k w n p h b q (value_of s p w) refl t
 
 accept-by : (s z : State) (w : List ℕ) (n : ℕ) → Sane s → (o : Option Keyword) → s.begun ≡ o → by_some o (begin s w n) (λ k. go_on s k w n) ≡ Ok z → Sane z
-accept-by s z w n h None b t = begin-by s z n h (keyword_of_lem w) t
+accept-by s z w n h None b t = begin-by s z n h (keyword_of w) t
 accept-by s z w n h (Some k) b t = slot_by s z k w n h b (slot_at (slots k) (length s.values)) refl t
 
 read_by : (s z : State) (ts : List Token) (r : Result State ℕ) → ((y : State) → r ≡ Ok y → read y ts ≡ Ok z → Sane z) → and_then r (λ y. read y ts) ≡ Ok z → Sane z
@@ -216,7 +216,7 @@ read-sane [] s z h e = subst Sane (same_ok e) h
 read-sane (t ∷ ts) s z h e = read_by s z ts (accept s t.bytes t.line) (λ y a r. read-sane ts y z (accept-by s y t.bytes t.line h s.begun refl a) r) e
 
 pub start-sane : Sane start
-unfolding AllEnded ends_in_lem
+unfolding AllEnded ends_in
 start-sane = record { ended = tt; count = refl; half = tt }
 
 pub said-sane : (text : List ℕ) (z : State) → said_in text ≡ Ok z → Sane z

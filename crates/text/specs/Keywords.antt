@@ -9,8 +9,8 @@ use Rattle.text.specs.declared.statement.Statement.{Statement}
 use Rattle.text.specs.declared.statement.Statement.TheVariants as statement
 
 -- the words that begin a statement
-abbrev pub keyword_of_lem : List ℕ → Option Keyword
-keyword_of_lem w =
+abbrev pub keyword_of : List ℕ → Option Keyword
+keyword_of w =
     cond (bytes_eq w (codes "box")) (Some key.Box)
     (cond (bytes_eq w (codes "cell")) (Some key.Cell)
     (cond (bytes_eq w (codes "}")) (Some key.Close)

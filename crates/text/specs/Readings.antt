@@ -12,7 +12,7 @@ use Rattle.words.specs.Names.{names_of}
 use Rattle.words.specs.Chains.{place_of as place-among}
 use Rattle.words.specs.Numbers.{number_in}
 use Rattle.words.specs.Steps.{by_some, and_then}
-use Rattle.text.specs.Keywords.{keyword_of_lem, slots, slot_at, turns, statement_of}
+use Rattle.text.specs.Keywords.{keyword_of, slots, slot_at, turns, statement_of}
 use Rattle.text.specs.declared.keyword.Keyword.{Keyword}
 use Rattle.text.specs.declared.keyword.Slot.{Slot}
 use Rattle.text.specs.declared.keyword.Keyword.TheVariants as key
@@ -38,30 +38,30 @@ abbrev pub inside : State → Bool
 inside s = nat_lt s.closed (length s.cells)
 
 -- no cell and no pin is said inside a cell; a turn follows a put
-abbrev pub may_begin_lem : State → Keyword → Bool
-may_begin_lem s key.Box = true
-may_begin_lem s key.Cell = not (inside s)
-may_begin_lem s key.Close = inside s
-may_begin_lem s key.Put = true
-may_begin_lem s key.Turned = s.turning
-may_begin_lem s key.Mirrored = s.turning
-may_begin_lem s key.Row = true
-may_begin_lem s key.Column = true
-may_begin_lem s key.Pin = not (inside s)
+abbrev pub may_begin : State → Keyword → Bool
+may_begin s key.Box = true
+may_begin s key.Cell = not (inside s)
+may_begin s key.Close = inside s
+may_begin s key.Put = true
+may_begin s key.Turned = s.turning
+may_begin s key.Mirrored = s.turning
+may_begin s key.Row = true
+may_begin s key.Column = true
+may_begin s key.Pin = not (inside s)
 
 abbrev pub brace : List ℕ → Bool
 brace w = bytes_eq w (codes "{") || bytes_eq w (codes "}")
 
 -- a name is any word but a brace
-abbrev pub new_name_lem : List (List ℕ) → List ℕ → Option ℕ
-new_name_lem ns w = cond (brace w) None (by_some (place-among ns w) (Some 0) (λ k. None))
+abbrev pub new_name : List (List ℕ) → List ℕ → Option ℕ
+new_name ns w = cond (brace w) None (by_some (place-among ns w) (Some 0) (λ k. None))
 
 -- the value of a word that can stand in a slot: of a number itself, of a cell its number, else 0
 abbrev pub value_of : State → Slot → List ℕ → Option ℕ
 value_of s slot.Number w = number_in w
 value_of s slot.Cell w = by_some (place-among s.cells w) None (λ k. cond (nat_lt k s.closed) (Some k) None)
-value_of s slot.NewCell w = new_name_lem s.cells w
-value_of s slot.NewPin w = new_name_lem s.pins w
+value_of s slot.NewCell w = new_name s.cells w
+value_of s slot.NewPin w = new_name s.pins w
 value_of s slot.At w = cond (bytes_eq w (codes "at")) (Some 0) None
 value_of s slot.Open w = cond (bytes_eq w (codes "{")) (Some 0) None
 
@@ -69,16 +69,16 @@ abbrev pub state_of : Reader → State
 state_of r = record { said = vec_items r.said; cells = names_of r.cells; pins = names_of r.pins; closed = r.closed; turning = r.turning; begun = r.begun; line = r.line; values = vec_items r.values }
 
 -- how many cells have ended after a statement
-abbrev pub closed_by_lem : State → Keyword → ℕ
-closed_by_lem s key.Box = s.closed
-closed_by_lem s key.Cell = s.closed
-closed_by_lem s key.Close = cond (inside s) (s.closed + 1) s.closed
-closed_by_lem s key.Put = s.closed
-closed_by_lem s key.Turned = s.closed
-closed_by_lem s key.Mirrored = s.closed
-closed_by_lem s key.Row = s.closed
-closed_by_lem s key.Column = s.closed
-closed_by_lem s key.Pin = s.closed
+abbrev pub closed_by : State → Keyword → ℕ
+closed_by s key.Box = s.closed
+closed_by s key.Cell = s.closed
+closed_by s key.Close = cond (inside s) (s.closed + 1) s.closed
+closed_by s key.Put = s.closed
+closed_by s key.Turned = s.closed
+closed_by s key.Mirrored = s.closed
+closed_by s key.Row = s.closed
+closed_by s key.Column = s.closed
+closed_by s key.Pin = s.closed
 
 -- a statement ends once each of its words has a value
 abbrev pub completed : State → Keyword → State
@@ -86,7 +86,7 @@ completed s k = record {
   said = s.said ++ record { statement = statement_of k s.values; line = s.line } ∷ [];
   cells = s.cells;
   pins = s.pins;
-  closed = closed_by_lem s k;
+  closed = closed_by s k;
   turning = turns k;
   begun = None;
   line = s.line;
@@ -104,7 +104,7 @@ abbrev pub fresh : State → ℕ → State
 fresh s n = record { said = s.said; cells = s.cells; pins = s.pins; closed = s.closed; turning = s.turning; begun = s.begun; line = n; values = [] }
 
 abbrev pub begin : State → List ℕ → ℕ → Result State ℕ
-begin s w n = by_some (keyword_of_lem w) (Err n) (λ k. cond (may_begin_lem s k) (Ok (settled (fresh s n) k)) (Err n))
+begin s w n = by_some (keyword_of w) (Err n) (λ k. cond (may_begin s k) (Ok (settled (fresh s n) k)) (Err n))
 
 -- it goes on with a word and its value; a new name is kept
 abbrev pub noted : State → Slot → List ℕ → State

@@ -1,6 +1,6 @@
 // The words that begin a statement, and what has to follow each.
 ghost use Rattle.std.specs.Prelude.{◌≡◌, slice_index};
-ghost use Rattle.text.specs.Keywords.{keyword_of_lem, slots, slot_at, turns, statement_of};
+ghost use Rattle.text.specs.Keywords.{keyword_of, slots, slot_at, turns, statement_of};
 
 use super::statement::Statement;
 use words::word::same;
@@ -35,7 +35,7 @@ pub enum Slot {
 }
 
 pub(crate) fn keyword_of(word: &[u8]) -> Option<Keyword>
-    ensures { result ≡ keyword_of_lem word.now }
+    ensures { result ≡ keyword_of word.now }
 {
     if same(word, b"box") {
         return Some(Keyword::Box);

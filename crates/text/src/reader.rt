@@ -3,7 +3,7 @@ ghost use Rattle.std.specs.Prelude.{◌≡◌, map, IfOk, if◌then◌else◌, S
 ghost use Rattle.std.specs.Str.{bytes_eq};
 ghost use Rattle.words.specs.Names.{names_of};
 ghost use Rattle.words.specs.Words.{token_at};
-ghost use Rattle.text.specs.Readings.{start, inside, may_begin_lem, new_name_lem, value_of, closed_by_lem, settled, begin, noted, go_on, accept, read, said_in, state_of, Follows, Read};
+ghost use Rattle.text.specs.Readings.{start, inside, may_begin, new_name, value_of, closed_by, settled, begin, noted, go_on, accept, read, said_in, state_of, Follows, Read};
 
 use super::keyword::{Keyword, Slot, keyword_of};
 use super::statement::Said;
@@ -57,7 +57,7 @@ impl Reader {
 
     /// Whether a statement may begin so.
     fn may_begin(&self, keyword: Keyword) -> bool
-        ensures { result ≡ may_begin_lem (state_of self.now) keyword }
+        ensures { result ≡ may_begin (state_of self.now) keyword }
     {
         match keyword {
             Keyword::Cell => !self.inside(),
@@ -104,7 +104,7 @@ impl Reader {
 
     /// How many cells have ended after a statement.
     fn closed_by(&self, keyword: Keyword) -> usize
-        ensures { result ≡ closed_by_lem (state_of self.now) keyword }
+        ensures { result ≡ closed_by (state_of self.now) keyword }
     {
         match keyword {
             Keyword::Close if self.closed < self.cells.len() => self.closed + 1,
@@ -226,7 +226,7 @@ pub(crate) fn read_statements(heap: Global, text: &[u8]) -> Result<Reader, Fault
 
 /// 0 for a name that is new.
 fn new_name(names: &Names, word: &[u8]) -> Option<u64>
-    ensures { result ≡ new_name_lem (names_of names.now) word.now }
+    ensures { result ≡ new_name (names_of names.now) word.now }
 {
     if same(word, b"{") | same(word, b"}") {
         return None;

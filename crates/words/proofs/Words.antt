@@ -9,7 +9,7 @@ use Rattle.words.specs.declared.word.Word.{Word}
 use Rattle.words.specs.declared.word.Marks.{Marks}
 use Rattle.words.specs.declared.word.Kind.{Kind}
 use Rattle.words.specs.declared.word.Kind.TheVariants.{Newline, Blank, Comment, Mark, Letter}
-use Rattle.words.specs.Words.{Token, kind_of_lem, is_letter, letters, rest_of_line, ended, by_kind, words_from, words_of, token_at, Inside, Cut}
+use Rattle.words.specs.Words.{Token, kind_of, is_letter, letters, rest_of_line, ended, by_kind, words_from, words_of, token_at, Inside, Cut}
 
 pub no_letter : (k : Kind) → (k ≡ Letter → ⊥) → is_letter k ≡ false
 no_letter Newline h = refl
@@ -19,13 +19,13 @@ no_letter Mark h = refl
 no_letter Letter h = absurd (h refl)
 
 module _ (m : Marks) (text : List ℕ) (at : ℕ) where
-  pub letter-more : at < length text → Letter ≡ kind_of_lem m (get_or text at 0) → length (letters m (drop at text)) ≡ suc (length (letters m (drop (at + 1) text)))
+  pub letter-more : at < length text → Letter ≡ kind_of m (get_or text at 0) → length (letters m (drop at text)) ≡ suc (length (letters m (drop (at + 1) text)))
   unfolding letters
   letter-more h e =
       at_drop_more (λ bs. length (letters m bs)) text at 0 h
       ∙ ap (λ t. length (cond t (get_or text at 0 ∷ letters m (drop (at + 1) text)) [])) (sym (ap is_letter e))
 
-  pub letter-stop : (k : Kind) → at < length text → k ≡ kind_of_lem m (get_or text at 0) → (k ≡ Letter → ⊥) → length (letters m (drop at text)) ≡ 0
+  pub letter-stop : (k : Kind) → at < length text → k ≡ kind_of m (get_or text at 0) → (k ≡ Letter → ⊥) → length (letters m (drop at text)) ≡ 0
   unfolding letters
   letter-stop k h e n =
       at_drop_more (λ bs. length (letters m bs)) text at 0 h
@@ -57,18 +57,18 @@ letter_is Letter e = refl
 
 -- a run of letters
 module _ (m : Marks) where
-  letters-yes : (b : ℕ) (bs : List ℕ) → is_letter (kind_of_lem m b) ≡ true → letters m (b ∷ bs) ≡ b ∷ letters m bs
+  letters-yes : (b : ℕ) (bs : List ℕ) → is_letter (kind_of m b) ≡ true → letters m (b ∷ bs) ≡ b ∷ letters m bs
   unfolding letters
   letters-yes b bs e = ap (λ t. cond t (b ∷ letters m bs) []) e
 
-  letters-no : (b : ℕ) (bs : List ℕ) → is_letter (kind_of_lem m b) ≡ false → letters m (b ∷ bs) ≡ []
+  letters-no : (b : ℕ) (bs : List ℕ) → is_letter (kind_of m b) ≡ false → letters m (b ∷ bs) ≡ []
   unfolding letters
   letters-no b bs e = ap (λ t. cond t (b ∷ letters m bs) []) e
 
   pub letters-take : (bs : List ℕ) → take (length (letters m bs)) bs ≡ letters m bs
   unfolding letters
   letters-take [] = refl
-  letters-take (b ∷ bs) = elim (cases_Bool (is_letter (kind_of_lem m b))) [
+  letters-take (b ∷ bs) = elim (cases_Bool (is_letter (kind_of m b))) [
     | inl e ↦ ap (λ us. take (length us) (b ∷ bs)) (letters-yes b bs e) ∙ ap (λ us. b ∷ us) (letters-take bs) ∙ sym (letters-yes b bs e)
     | inr e ↦ ap (λ us. take (length us) (b ∷ bs)) (letters-no b bs e) ∙ sym (letters-no b bs e)
   ]
@@ -76,41 +76,41 @@ module _ (m : Marks) where
   pub letters-done : (bs : List ℕ) → letters m (drop (length (letters m bs)) bs) ≡ []
   unfolding letters
   letters-done [] = refl
-  letters-done (b ∷ bs) = elim (cases_Bool (is_letter (kind_of_lem m b))) [
+  letters-done (b ∷ bs) = elim (cases_Bool (is_letter (kind_of m b))) [
     | inl e ↦ ap (λ us. letters m (drop (length us) (b ∷ bs))) (letters-yes b bs e) ∙ letters-done bs
     | inr e ↦ ap (λ us. letters m (drop (length us) (b ∷ bs))) (letters-no b bs e) ∙ letters-no b bs e
   ]
 
   -- one byte where no word has begun
-  pub at-newline : (n p b : ℕ) (bs : List ℕ) → kind_of_lem m b ≡ Newline → words_from m n p false [] (b ∷ bs) ≡ words_from m (suc n) (p + 1) false [] bs
+  pub at-newline : (n p b : ℕ) (bs : List ℕ) → kind_of m b ≡ Newline → words_from m n p false [] (b ∷ bs) ≡ words_from m (suc n) (p + 1) false [] bs
   unfolding words_from
   at-newline n p b bs e = let z : p + 0 + 1 ≡ p + 1 = omega arith in rw e (ap (λ q. words_from m (suc n) q false [] bs) z)
 
-  pub at-blank : (n p b : ℕ) (bs : List ℕ) → kind_of_lem m b ≡ Blank → words_from m n p false [] (b ∷ bs) ≡ words_from m n (p + 1) false [] bs
+  pub at-blank : (n p b : ℕ) (bs : List ℕ) → kind_of m b ≡ Blank → words_from m n p false [] (b ∷ bs) ≡ words_from m n (p + 1) false [] bs
   unfolding words_from
   at-blank n p b bs e = let z : p + 0 + 1 ≡ p + 1 = omega arith in rw e (ap (λ q. words_from m n q false [] bs) z)
 
-  pub at-comment : (n p b : ℕ) (bs : List ℕ) → kind_of_lem m b ≡ Comment → words_from m n p false [] (b ∷ bs) ≡ words_from m n (p + 1) true [] bs
+  pub at-comment : (n p b : ℕ) (bs : List ℕ) → kind_of m b ≡ Comment → words_from m n p false [] (b ∷ bs) ≡ words_from m n (p + 1) true [] bs
   unfolding words_from
   at-comment n p b bs e = let z : p + 0 + 1 ≡ p + 1 = omega arith in rw e (ap (λ q. words_from m n q true [] bs) z)
 
   marked : (n b : ℕ) (bs : List ℕ) → ℕ → List Token
   marked n b bs z = record { line = n; from = z; to = z + 1; bytes = b ∷ [] } ∷ words_from m n (z + 1) false [] bs
 
-  pub at_mark : (n p b : ℕ) (bs : List ℕ) → kind_of_lem m b ≡ Mark → words_from m n p false [] (b ∷ bs) ≡ record { line = n; from = p; to = p + 1; bytes = b ∷ [] } ∷ words_from m n (p + 1) false [] bs
+  pub at_mark : (n p b : ℕ) (bs : List ℕ) → kind_of m b ≡ Mark → words_from m n p false [] (b ∷ bs) ≡ record { line = n; from = p; to = p + 1; bytes = b ∷ [] } ∷ words_from m n (p + 1) false [] bs
   unfolding words_from marked
   at_mark n p b bs e = let z : p + 0 ≡ p = omega arith in rw e (ap (marked n b bs) z)
 
-  pub at-letter : (n p b : ℕ) (w bs : List ℕ) → kind_of_lem m b ≡ Letter → words_from m n p false w (b ∷ bs) ≡ words_from m n p false (w ++ b ∷ []) bs
+  pub at-letter : (n p b : ℕ) (w bs : List ℕ) → kind_of m b ≡ Letter → words_from m n p false w (b ∷ bs) ≡ words_from m n p false (w ++ b ∷ []) bs
   unfolding words_from
   at-letter n p b w bs e = rw e
 
   pub word-begun : (n p : ℕ) (w bs : List ℕ) → words_from m n p false w bs ≡ words_from m n p false (w ++ letters m bs) (drop (length (letters m bs)) bs)
   unfolding letters
   word-begun n p w [] = ap (λ u. words_from m n p false u []) (sym (append-nil w))
-  word-begun n p w (b ∷ bs) = elim (cases_Bool (is_letter (kind_of_lem m b))) [
+  word-begun n p w (b ∷ bs) = elim (cases_Bool (is_letter (kind_of m b))) [
     | inl e ↦
-        at-letter n p b w bs (letter_is (kind_of_lem m b) e) ∙ word-begun n p (w ++ b ∷ []) bs
+        at-letter n p b w bs (letter_is (kind_of m b) e) ∙ word-begun n p (w ++ b ∷ []) bs
         ∙ ap (λ u. words_from m n p false u (drop (length (letters m bs)) bs)) (append_assoc w (b ∷ []) (letters m bs))
         ∙ ap (λ us. words_from m n p false (w ++ us) (drop (length us) (b ∷ bs))) (sym (letters-yes b bs e))
     | inr e ↦
@@ -127,17 +127,17 @@ module _ (m : Marks) where
 
   -- what follows a byte at a place
   following : (n b : ℕ) (bs : List ℕ) (M : List Token) → ℕ → List Token
-  following n b bs M z = by_kind (kind_of_lem m b) (words_from m (suc n) (z + 1) false [] bs) (words_from m n (z + 1) false [] bs) (words_from m n (z + 1) true [] bs) (record { line = n; from = z; to = z + 1; bytes = b ∷ [] } ∷ words_from m n (z + 1) false [] bs) M
+  following n b bs M z = by_kind (kind_of m b) (words_from m (suc n) (z + 1) false [] bs) (words_from m n (z + 1) false [] bs) (words_from m n (z + 1) true [] bs) (record { line = n; from = z; to = z + 1; bytes = b ∷ [] } ∷ words_from m n (z + 1) false [] bs) M
 
   pub word-ended : (n p : ℕ) (w bs : List ℕ) → letters m bs ≡ [] → words_from m n p false w bs ≡ ended n p w ++ words_from m n (p + length w) false [] bs
   unfolding words_from following
   word-ended n p w [] e = sym (append-nil (ended n p w))
-  word-ended n p w (b ∷ bs) e = elim (cases_Bool (is_letter (kind_of_lem m b))) [
+  word-ended n p w (b ∷ bs) e = elim (cases_Bool (is_letter (kind_of m b))) [
     | inl y ↦ absurd (clash (sym (letters-yes b bs y) ∙ e))
     | inr y ↦
         let M = words_from m n (p + length w) false (b ∷ []) bs in
         let z : p + length w ≡ p + length w + 0 = omega arith in
-        split-kind (ended n p w) _ _ _ _ _ M (kind_of_lem m b) y ∙ ap (λ q. ended n p w ++ following n b bs M q) z
+        split-kind (ended n p w) _ _ _ _ _ M (kind_of m b) y ∙ ap (λ q. ended n p w ++ following n b bs M q) z
   ]
     where
       clash : {x : ℕ} {xs : List ℕ} → x ∷ xs ≡ [] → ⊥
@@ -152,7 +152,7 @@ module _ (m : Marks) where
   comment-ended n p [] = refl
   comment-ended n p (b ∷ bs) = elim (cases_Bool (eqb b 10)) [
     | inl e ↦
-        let k : kind_of_lem m b ≡ Newline = rw e in
+        let k : kind_of m b ≡ Newline = rw e in
         let z : p + 0 + 1 ≡ p + 1 = omega arith in
         rw e (ap (λ q. words_from m (suc n) q false [] bs) (sym z) ∙ sym (at-newline n (p + 0) b bs k))
     | inr e ↦
@@ -197,7 +197,7 @@ module _ (m : Marks) (text : List ℕ) (ws : List Word) (line at : ℕ) (c : Cut
   onto : (line' at' : ℕ) → words_from m line at false [] (drop at text) ≡ words_from m line' at' false [] (drop at' text) → map (token_at text) ws ++ words_from m line' at' false [] (drop at' text) ≡ words_of m text
   onto line' at' e = ap (λ ts. map (token_at text) ws ++ ts) (sym e) ∙ c.same
 
-  pub cut-newline : Newline ≡ kind_of_lem m (get_or text at 0) → Cutting m text ws (line + 1) (at + 1)
+  pub cut-newline : Newline ≡ kind_of m (get_or text at 0) → Cutting m text ws (line + 1) (at + 1)
   cut-newline e = record {
     here = omega arith;
     lines = omega (arith, c.lines);
@@ -207,7 +207,7 @@ module _ (m : Marks) (text : List ℕ) (ws : List Word) (line at : ℕ) (c : Cut
         onto (line + 1) (at + 1) (ap (words_from m line at false []) left_is ∙ at-newline m line at (get_or text at 0) (drop (at + 1) text) (sym e) ∙ ap (λ n. words_from m n (at + 1) false [] (drop (at + 1) text)) z);
   }
 
-  pub cut-blank : Blank ≡ kind_of_lem m (get_or text at 0) → Cutting m text ws line (at + 1)
+  pub cut-blank : Blank ≡ kind_of m (get_or text at 0) → Cutting m text ws line (at + 1)
   cut-blank e = record {
     here = omega arith;
     lines = omega (arith, c.lines);
@@ -215,13 +215,13 @@ module _ (m : Marks) (text : List ℕ) (ws : List Word) (line at : ℕ) (c : Cut
     same = onto line (at + 1) (ap (words_from m line at false []) left_is ∙ at-blank m line at (get_or text at 0) (drop (at + 1) text) (sym e));
   }
 
-  comment-long : Comment ≡ kind_of_lem m (get_or text at 0) → length (rest_of_line (drop at text)) ≡ suc (length (rest_of_line (drop (at + 1) text)))
-  comment-long e = line-more text at more (λ t. let k : kind_of_lem m (get_or text at 0) ≡ Newline = rw t in let z : ◌≡◌ {A = ℕ} 0 1 = cc in omega arith)
+  comment-long : Comment ≡ kind_of m (get_or text at 0) → length (rest_of_line (drop at text)) ≡ suc (length (rest_of_line (drop (at + 1) text)))
+  comment-long e = line-more text at more (λ t. let k : kind_of m (get_or text at 0) ≡ Newline = rw t in let z : ◌≡◌ {A = ℕ} 0 1 = cc in omega arith)
 
-  pub comment-moves : Comment ≡ kind_of_lem m (get_or text at 0) → (end : ℕ) → end ≡ at + length (rest_of_line (drop at text)) → at < end
+  pub comment-moves : Comment ≡ kind_of m (get_or text at 0) → (end : ℕ) → end ≡ at + length (rest_of_line (drop at text)) → at < end
   comment-moves e end h = omega (arith, comment-long e)
 
-  pub cut-comment : Comment ≡ kind_of_lem m (get_or text at 0) → (end : ℕ) → end ≡ at + length (rest_of_line (drop at text)) → Cutting m text ws line end
+  pub cut-comment : Comment ≡ kind_of m (get_or text at 0) → (end : ℕ) → end ≡ at + length (rest_of_line (drop at text)) → Cutting m text ws line end
   cut-comment e end h = record {
     here = omega (arith, rest-long (drop at text), length-drop at text);
     lines = omega (arith, c.lines);
@@ -242,7 +242,7 @@ module _ (m : Marks) (text : List ℕ) (ws : List Word) (line at : ℕ) (c : Cut
       ∙ append_assoc (map (token_at text) ws) (token_at text w ∷ []) (words_from m line at' false [] (drop at' text))
       ∙ ap (λ ts. map (token_at text) ws ++ ts) (sym e) ∙ c.same
 
-  pub cut-mark : Mark ≡ kind_of_lem m (get_or text at 0) → Cutting m text (ws ++ record { start = at; end = at + 1; line = line } ∷ []) line (at + 1)
+  pub cut-mark : Mark ≡ kind_of m (get_or text at 0) → Cutting m text (ws ++ record { start = at; end = at + 1; line = line } ∷ []) line (at + 1)
   cut-mark e = record {
     here = omega arith;
     lines = omega (arith, c.lines);
@@ -254,13 +254,13 @@ module _ (m : Marks) (text : List ℕ) (ws : List Word) (line at : ℕ) (c : Cut
         pushed-on _ (at + 1) (ap (words_from m line at false []) left_is ∙ at_mark m line at (get_or text at 0) (drop (at + 1) text) (sym e) ∙ ap rest (sym one));
   }
 
-  letters-long : Letter ≡ kind_of_lem m (get_or text at 0) → length (letters m (drop at text)) ≡ suc (length (letters m (drop (at + 1) text)))
+  letters-long : Letter ≡ kind_of m (get_or text at 0) → length (letters m (drop at text)) ≡ suc (length (letters m (drop (at + 1) text)))
   letters-long e = letter-more m text at more e
 
-  pub letters-move : Letter ≡ kind_of_lem m (get_or text at 0) → (end : ℕ) → end ≡ at + length (letters m (drop at text)) → at < end
+  pub letters-move : Letter ≡ kind_of m (get_or text at 0) → (end : ℕ) → end ≡ at + length (letters m (drop at text)) → at < end
   letters-move e end h = omega (arith, letters-long e)
 
-  pub cut-letters : Letter ≡ kind_of_lem m (get_or text at 0) → (end : ℕ) → end ≡ at + length (letters m (drop at text)) → Cutting m text (ws ++ record { start = at; end = end; line = line } ∷ []) line end
+  pub cut-letters : Letter ≡ kind_of m (get_or text at 0) → (end : ℕ) → end ≡ at + length (letters m (drop at text)) → Cutting m text (ws ++ record { start = at; end = end; line = line } ∷ []) line end
   cut-letters e end h = record {
     here = omega (arith, letters-short m (drop at text), length-drop at text);
     lines = omega (arith, c.lines);

@@ -21,8 +21,8 @@ is_mark Braces b = b == 123 || b == 125
 is_mark Parentheses b = b == 40 || b == 41
 
 -- a line ends at a newline; space, tab and carriage return are blanks; # begins a comment
-abbrev pub kind_of_lem : Marks → ℕ → Kind
-kind_of_lem m b = cond (b == 10) Newline (cond (b == 32 || (b == 9 || b == 13)) Blank (cond (b == 35) Comment (cond (is_mark m b) Mark Letter)))
+abbrev pub kind_of : Marks → ℕ → Kind
+kind_of m b = cond (b == 10) Newline (cond (b == 32 || (b == 9 || b == 13)) Blank (cond (b == 35) Comment (cond (is_mark m b) Mark Letter)))
 
 abbrev pub is_letter : Kind → Bool
 is_letter Newline = false
@@ -34,7 +34,7 @@ is_letter Letter = true
 -- the letters that a text begins with
 unfoldable pub letters : Marks → List ℕ → List ℕ
 letters m [] = []
-letters m (b ∷ bs) = cond (is_letter (kind_of_lem m b)) (b ∷ letters m bs) []
+letters m (b ∷ bs) = cond (is_letter (kind_of m b)) (b ∷ letters m bs) []
 
 unfoldable pub rest_of_line : List ℕ → List ℕ
 rest_of_line [] = []
@@ -57,7 +57,7 @@ unfoldable pub words_from : Marks → (line from : ℕ) (comment : Bool) (word :
 words_from m n p c w [] = ended n p w
 words_from m n p true w (b ∷ bs) = cond (b == 10) (words_from m (suc n) (p + 1) false [] bs) (words_from m n (p + 1) true w bs)
 words_from m n p false w (b ∷ bs) =
-    by_kind (kind_of_lem m b)
+    by_kind (kind_of m b)
     (ended n p w ++ words_from m (suc n) (p + length w + 1) false [] bs)
     (ended n p w ++ words_from m n (p + length w + 1) false [] bs)
     (ended n p w ++ words_from m n (p + length w + 1) true [] bs)

@@ -2,7 +2,7 @@
 ghost use Rattle.std.specs.Prelude.{◌≡◌, ◌+◌, ◌<◌, ◌≤◌, length, drop, IfOk};
 ghost use Rattle.std.specs.List.{between};
 ghost use Rattle.std.specs.Str.{bytes_eq};
-ghost use Rattle.words.specs.Words.{is_mark, kind_of_lem, letters, rest_of_line, Cut};
+ghost use Rattle.words.specs.Words.{is_mark, kind_of, letters, rest_of_line, Cut};
 
 use std::alloc::{AllocError, Global};
 
@@ -61,7 +61,7 @@ fn marked(marks: Marks, byte: u8) -> bool
 }
 
 fn kind_of(marks: Marks, byte: u8) -> Kind
-    ensures { result ≡ kind_of_lem marks byte }
+    ensures { result ≡ kind_of marks byte }
 {
     if byte == b'\n' {
         return Kind::Newline;

@@ -4,7 +4,7 @@ use Rattle.std.proofs.lemmas.List.{get_or_read}
 use Rattle.tiles.specs.Tiles.{none, tile_at}
 use Rattle.devices.specs.Channels.{spot_of}
 use Rattle.devices.specs.Ends.{OddAt}
-use Rattle.devices.specs.Pieces.{root_of_lem}
+use Rattle.devices.specs.Pieces.{root_of}
 use Rattle.devices.proofs.Readings.{Going, going-none, going-skip, going_more, going-odd, going-all}
 use Rattle.devices.proofs.reading.read_devices.Goals as goal
 use Rattle.devices.proofs.reading.read_devices.Goals.{then-index-i+in-Some+in_ok-push, else-index-i}
@@ -19,7 +19,7 @@ returns-in_default c = λ k d known.
     let i = c.loop-i.i in
     let within : i < length ts = omega (arith, c.loop-i-test.true, c.requires.terminals) in
     let inside : i < length rs = omega (arith, within, c.requires.roots) in
-    let root : c.index.result.now ≡ root_of_lem rs i = get_or_read rs i c.index.result.now inside c.index.ensures i in
+    let root : c.index.result.now ≡ root_of rs i = get_or_read rs i c.index.result.now inside c.index.ensures i in
     let tile : c.index-tile.result.now ≡ tile_at ts i = get_or_read ts i c.index-tile.result.now within c.index-tile.ensures none in
     subst (λ t. OddAt k d (spot_of k t.left t.top)) (sym tile)
     (going-odd k d ts rs c.args.terminals.now known i (vec_items c.loop-i.devices) (c.loop-i.invariant k d known) within (sym root ∙ c.if-index-i.true) (sym c.in_default.ensures))
@@ -31,7 +31,7 @@ loop-i-preserved c = λ k d known.
     let i = c.loop-i.i in
     let within : i < length ts = omega (arith, c.loop-i-test.true, c.requires.terminals) in
     let inside : i < length rs = omega (arith, within, c.requires.roots) in
-    let root : c.index.result.now ≡ root_of_lem rs i = get_or_read rs i c.index.result.now inside c.index.ensures i in
+    let root : c.index.result.now ≡ root_of rs i = get_or_read rs i c.index.result.now inside c.index.ensures i in
     elim c.if-index-i.branch [
       | then-index-i+in-Some+in_ok-push w ↦
           let tile : w.index-tile.result.now ≡ tile_at ts i = get_or_read ts i w.index-tile.result.now within w.index-tile.ensures none in

@@ -5,7 +5,7 @@ use Rattle.std.proofs.ByRecursion.{All-get_or}
 use Rattle.devices.specs.declared.border.Border.{Border}
 use Rattle.devices.specs.declared.terminal.Terminals.{Terminals}
 use Rattle.devices.specs.declared.terminal.Terminals.TheVariants.{Isolated}
-use Rattle.devices.specs.Terminals.{Sums, with_one_lem}
+use Rattle.devices.specs.Terminals.{Sums, with_one}
 use Rattle.devices.proofs.Terminals.{terminal_of, sums_none, sums-step}
 use Rattle.devices.proofs.terminal.gather.Goals as goal
 
@@ -42,7 +42,7 @@ loop-border-preserved c =
     let read : c.index.result.now ≡ get_or es b.channel Isolated = get_or_read es b.channel c.index.result.now inside c.index.ensures Isolated in (
       length-set es b.channel c.with_one.result ∙ c.loop-border.invariant.0,
       sums-step bs i es b c.loop-border-test.true (get_or_default bs i b (record { channel = 0; net = 0; x = 0; y = 0 }) c.loop-border-test.true) inside c.loop-border.invariant.1 c.with_one.result
-          (c.with_one.ensures ∙ ap (λ t. with_one_lem t (terminal_of b)) read),
+          (c.with_one.ensures ∙ ap (λ t. with_one t (terminal_of b)) read),
     )
 
 pub returns : goal.returns
