@@ -26,9 +26,9 @@ fn show(rt: &HostRuntime, name: &str, a: &Netlist, b: &Netlist, named: u64) -> a
     );
     let micros = start.elapsed(rt)?.as_micros();
     match answer {
-        Comparison::Equal => println!(rt; "{name}: the same")?,
-        Comparison::Unequal => println!(rt; "{name}: not the same")?,
-        Comparison::Refused(refusal) => {
+        Ok(Comparison::Equal) => println!(rt; "{name}: the same")?,
+        Ok(Comparison::Unequal) => println!(rt; "{name}: not the same")?,
+        Err(refusal) => {
             let place = refusal.place();
             println!(rt; "{name}: refused at {place}")?;
         }

@@ -16,32 +16,37 @@ use pairing::{Pairing, own_partners};
 use search::pairable;
 
 /// What a comparison answers.
-#[derive(Clone, Copy, Debug, PartialEq)]
+#[derive(Clone, Copy, Debug, PartialEq, Eq)]
 pub enum Comparison {
     Equal,
     Unequal,
-    Refused(Refusal),
 }
 
 /// Compares two circuits, each given by how many nets it has and its devices in threes: the gate's net, then the nets of the two ends, in either order.
 /// A circuit has 1 to 256 nets and up to 256 devices. Nets and devices are paired one to one; the nets below `named` have names and go with themselves.
-pub fn compare(nets_a: u64, nets_b: u64, named: u64, a: &[u64], b: &[u64]) -> Comparison
+pub fn compare(
+    nets_a: u64,
+    nets_b: u64,
+    named: u64,
+    a: &[u64],
+    b: &[u64],
+) -> Result<Comparison, Refusal>
     ensures { ComparisonSays nets_a nets_b named a.now b.now result }
 {
     if !is_circuit(nets_a, a) {
-        return Comparison::Refused(Refusal::Circuit(0));
+        return Err(Refusal::Circuit(0));
     }
     if !is_circuit(nets_b, b) {
-        return Comparison::Refused(Refusal::Circuit(1));
+        return Err(Refusal::Circuit(1));
     }
     if named > nets_a.min(nets_b) {
-        return Comparison::Refused(Refusal::Circuit(2));
+        return Err(Refusal::Circuit(2));
     }
     let own = own_partners(named as usize);
     let p = Pairing { to: own, back: own };
     if pairable(a, b, nets_a as usize, nets_b as usize, p) {
-        Comparison::Equal
+        Ok(Comparison::Equal)
     } else {
-        Comparison::Unequal
+        Ok(Comparison::Unequal)
     }
 }

@@ -308,9 +308,9 @@ fn show_circuits(rt: &HostRuntime, name: &str, first: &str, second: &str) -> any
         a.devices.as_slice(),
         b.devices.as_slice(),
     ) {
-        Comparison::Equal => println!(rt; "{name}: same")?,
-        Comparison::Unequal => println!(rt; "{name}: not the same")?,
-        Comparison::Refused(refusal) => refused(rt, name, refusal)?,
+        Ok(Comparison::Equal) => println!(rt; "{name}: same")?,
+        Ok(Comparison::Unequal) => println!(rt; "{name}: not the same")?,
+        Err(refusal) => refused(rt, name, refusal)?,
     }
     Ok(())
 }
