@@ -1,11 +1,15 @@
 -- Circuits in numbers, and what is lent to the comparison. Assumes nothing.
-use Rattle.std.proofs.Common.{◌≡◌, ℕ, zero, suc, ◌+◌, ◌-◌, ◌*◌, ◌/◌, ◌%◌, ◌<◌, ◌≤◌, min, true, false, cond, ◌&&◌, eqb, leb, List, [], ◌∷◌, length, get_or, sym, refl, ap, ◌∙◌, subst, inl, inr, arith}
+use Rattle.std.proofs.Common.{◌≡◌, ℕ, zero, suc, ◌+◌, ◌-◌, ◌*◌, ◌/◌, ◌%◌, ◌<◌, ◌≤◌, min, true, false, cond, ◌&&◌, eqb, leb, ltb, List, [], ◌∷◌, length, get_or, sym, refl, ap, ap₂, ◌∙◌, subst, inl, inr, arith}
 use native.Mathlib.Numerals.{add-three}
-use Rattle.std.proofs.lemmas.Bool.{cases_Bool, cases_lt, eq-eqb, eqb-true, le-leb, leb-true, and_parts, and_from}
-use Rattle.circuits.specs.Circuits.{Device, Same}
+use Rattle.std.proofs.lemmas.Bool.{cases_Bool, cases_lt, eq-eqb, eqb-true, lt-ltb, le-ltb, le-leb, lt-leb, leb-true, and_parts, and_from}
+use Rattle.std.specs.List.{list_all}
+use Rattle.circuits.specs.Circuits.{Same}
+use Rattle.circuits.specs.declared.netlist.Device.{Device}
 use Rattle.circuits.specs.Laws.{BelowNets}
 use Rattle.circuits.specs.Netlists.{fits, weight, mapped, device_at, has, Netlist, threes, all_at_most, devices_in, none, circuit_ok}
-use Rattle.circuits.specs.Pairings.{Below, Has, at, Paired, Missing, Named, Pairable}
+use Rattle.circuits.specs.Pairings.{Below, Partners, Has, at, Paired, Missing, Named, Pairable}
+use Rattle.std.specs.Option.{unwrap_or}
+use Rattle.circuits.proofs.Partners.{held}
 use Rattle.circuits.proofs.Sums.{sum-cong}
 use Rattle.circuits.proofs.Isos.{W, to-iso, from-iso}
 
@@ -50,7 +54,7 @@ has_devices xs t =
     ap (λ k. weight k (λ i. get_or (devices_in xs) i none) t) (devices-length xs)
     ∙ sum-cong (length xs / 3) _ _ (λ i l. ap (λ p. cond (fits p t) 1 0) (devices-at xs i l))
 
-at_most_all : (m : ℕ) (xs : List ℕ) → all_at_most m xs ≡ true → (k : ℕ) → k < length xs → get_or xs k 0 ≤ m
+pub at_most_all : (m : ℕ) (xs : List ℕ) → all_at_most m xs ≡ true → (k : ℕ) → k < length xs → get_or xs k 0 ≤ m
 unfolding all_at_most
 at_most_all m [] e k h = absurd (omega arith)
 at_most_all m (x ∷ xs) e zero h = leb-true x m (and_parts (leb x m) (all_at_most m xs) e).0
@@ -61,8 +65,17 @@ unfolding all_at_most
 at_most_from m [] h = refl
 at_most_from m (x ∷ xs) h = and_from (leb x m) (all_at_most m xs) (le-leb x m (h 0 (omega arith))) (at_most_from m xs (λ k l. h (suc k) (omega arith)))
 
-pub at_most_not : (m : ℕ) (xs : List ℕ) (k : ℕ) → k < length xs → m < get_or xs k 0 → false ≡ all_at_most m xs
-at_most_not m xs k h l = elim (cases_Bool (all_at_most m xs)) [ inl e ↦ absurd (omega (arith, at_most_all m xs e k h)) | inr e ↦ sym e ]
+-- the same test, as the code makes it
+pub all_below : (n : ℕ) (xs : List ℕ) → 1 ≤ n → list_all (λ x. ltb x n) xs ≡ all_at_most (n - 1) xs
+unfolding all_at_most
+all_below n [] h = refl
+all_below n (x ∷ xs) h = ap₂ ◌&&◌ (below n x h) (all_below n xs h)
+  where
+    below : (n x : ℕ) → 1 ≤ n → ltb x n ≡ leb x (n - 1)
+    below n x h = elim (cases_lt x n) [
+      | inl l ↦ lt-ltb x n l ∙ sym (le-leb x (n - 1) (omega arith))
+      | inr g ↦ le-ltb x n g ∙ sym (lt-leb x (n - 1) (omega arith))
+    ]
 
 pub record Sound (n : ℕ) (xs : List ℕ) : Type 0 where
   pub threes : length xs % 3 ≡ 0
@@ -116,35 +129,41 @@ ok_below n xs c i l =
     let k : i < length xs / 3 = omega (arith, devices-length xs) in
     subst (Below n) (sym (devices-at xs i k)) (c.nets (3 * i) (omega arith), c.nets (3 * i + 1) (omega arith), c.nets (3 * i + 2) (omega arith))
 
-pub named-paired : (m n named : ℕ) (to : List ℕ) → named ≤ m → named ≤ n → m ≤ 256 → n ≤ 256 → Named named to → Paired m n to to
+pub named-paired : (m n named : ℕ) (to : Partners) → named ≤ m → named ≤ n → m ≤ 256 → n ≤ 256 → Named named to → Paired m n to to
 named-paired m n named to hm hn sm sn p =
     let own : (k x : ℕ) → k ≤ 256 → x < k → Has to x → x < named = λ k x s l q. named-low x (omega arith) q in
     record {
-      long = (p.long, p.long);
-      there = λ x l q. let w = own m x sm l q in let e = p.low x w in (omega (arith, e), ap (at to) e ∙ e);
-      backs = λ x l q. let w = own n x sn l q in let e = p.low x w in (omega (arith, e), ap (at to) e ∙ e);
+      there = λ x l q. let w = own m x sm l q in let e : at to x ≡ x = ap (λ o. unwrap_or o 256) (p.low x (omega arith) w) in (omega (arith, e), ap (at to) e ∙ e);
+      backs = λ x l q. let w = own n x sn l q in let e : at to x ≡ x = ap (λ o. unwrap_or o 256) (p.low x (omega arith) w) in (omega (arith, e), ap (at to) e ∙ e);
     }
   where
     named-low : (x : ℕ) → x < 256 → Has to x → x < named
-    named-low x l q = elim (cases_lt x named) [ inl w ↦ w | inr w ↦ absurd (q (p.high x w l)) ]
+    named-low x l q = elim (cases_lt x named) [ inl w ↦ w | inr w ↦ absurd (q (p.high x l w)) ]
 
 -- the entry's answer, both ways
-module _ (m n named : ℕ) (xs ys : List ℕ) (ca : Netlist m xs) (cb : Netlist n ys) (to : List ℕ) (hm : named ≤ m) (p : Named named to) where
+module _ (m n named : ℕ) (xs ys : List ℕ) (ca : Netlist m xs) (cb : Netlist n ys) (to : Partners) (hm : named ≤ m) (p : Named named to) where
   pub same_from : Pairable m n xs ys to → Same m n (devices_in xs) (devices_in ys) named none
   same_from w =
       from-iso m n (devices_in xs) (devices_in ys) named none (ok_below m xs ca) w.0 w.1 (ok_below n ys cb)
       (record { pairs = w.2.pairs; weigh = λ t l. has_devices ys (mapped w.0 t) ∙ (w.2.weigh t l ∙ sym (has_devices xs t)) })
-      (λ x l. let e = p.low x l in w.3 x (omega arith) (λ q. omega (arith, q, e, ca.some)) ∙ e)
+      (λ x l. let e : at to x ≡ x = ap (λ o. unwrap_or o 256) (p.low x (omega (arith, ca.some)) l) in w.3 x (omega arith) (held to x x e (omega (arith, ca.some))) ∙ e)
 
   pub not_same : Missing m n xs ys to → Same m n (devices_in xs) (devices_in ys) named none → ⊥
   not_same h s =
       let iso = to-iso m n (devices_in xs) (devices_in ys) named none (ok_below m xs ca) s in
       h s.net s.net_back
       (record { pairs = iso.pairs; weigh = λ t l. sym (has_devices ys (mapped s.net t)) ∙ (iso.weigh t l ∙ has_devices xs t) })
-      (λ x l q. elim (cases_lt x named) [ inl w ↦ s.keeps x w ∙ sym (p.low x w) | inr w ↦ absurd (q (p.high x w (omega (arith, ca.some)))) ])
+      (λ x l q. elim (cases_lt x named) [ inl w ↦ s.keeps x w ∙ sym (ap (λ o. unwrap_or o 256) (p.low x (omega (arith, ca.some)) w)) | inr w ↦ absurd (q (p.high x (omega (arith, ca.some)) w)) ])
 
 pub names-not : (named m n : ℕ) → min m n < named → (leb named m && leb named n) ≡ false
 names-not named m n h = elim (cases_Bool (leb named m && leb named n)) [
   | inl e ↦ let w = and_parts (leb named m) _ e in absurd (omega (arith, leb-true _ _ w.0, leb-true _ _ w.1))
   | inr e ↦ e
 ]
+
+-- what holds of two circuits as they were checked holds of them as they were given
+pub as_given :
+    (P : ℕ → ℕ → List ℕ → List ℕ → Type 0) (m n : ℕ) (xs ys : List ℕ) {m' n' : ℕ} {xs' ys' : List ℕ} → m ≡ m' → n ≡ n' → xs ≡ xs' → ys ≡ ys' →
+    P m n xs ys → P m' n' xs' ys'
+as_given P m n xs ys {m'} {n'} {xs'} em en ex ey h =
+    subst (P m' n' xs') ey (subst (λ v. P m' n' v ys) ex (subst (λ v. P m' v xs ys) en (subst (λ v. P v n xs ys) em h)))

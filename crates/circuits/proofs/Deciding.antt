@@ -1,7 +1,8 @@
 -- Whether two circuits are the same is decided, of whatever size. Assumes nothing.
 use Rattle.std.proofs.Common.{◌≡◌, ℕ, zero, suc, ◌<◌, cond, eqb, ltb, ◌⊎◌, List, length, get_or, sym, refl, ap, ◌∙◌, subst, inl, inr, arith}
 use Rattle.std.proofs.lemmas.Bool.{cases_eq, cases_lt, eq-eqb, ne_eqb, lt-ltb, le-ltb, cond-true, cond-false}
-use Rattle.circuits.specs.Circuits.{Device, Same}
+use Rattle.circuits.specs.Circuits.{Same}
+use Rattle.circuits.specs.declared.netlist.Device.{Device}
 use Rattle.circuits.specs.Laws.{BelowNets, Compared}
 use Rattle.circuits.specs.Netlists.{mapped, three}
 use Rattle.circuits.specs.Pairings.{Iso}

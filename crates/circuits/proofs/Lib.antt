@@ -1,13 +1,16 @@
 -- The lemmas of this crate.
 pub mod Sums
+mod Tables
 pub mod Devices
 pub mod Isos
 pub mod Laws
+pub mod Partners
 pub mod Pairings
 pub mod Exchange
 pub mod Reaches
 pub mod Searches
 pub mod Automorphisms
 pub mod Comparisons
+pub mod Walks
 pub mod Colours
 pub mod Deciding

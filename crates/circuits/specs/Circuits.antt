@@ -1,19 +1,15 @@
 -- Circuits that are the same. Assumes nothing: these are definitions.
 use Rattle.std.specs.Prelude.{◌≡◌, ℕ, ◌<◌, ◌⊎◌, List, length, slice_index_or}
+use Rattle.circuits.specs.declared.netlist.Device.{Device}
 
--- a circuit: devices with three nets each; two are the same if nets and devices can be paired, ends in either order, and nets that are given names keep them
-pub record Device : Type 0 where
-  pub gate : ℕ
-  pub one : ℕ
-  pub other : ℕ
-
-pub record Same (nets-a nets-b : ℕ) (as' bs : List Device) (named : ℕ) (none : Device) : Type 0 where
+-- two circuits are the same if nets and devices can be paired, ends in either order, and nets that are given names keep them
+pub record Same (nets_a nets_b : ℕ) (as' bs : List Device) (named : ℕ) (none : Device) : Type 0 where
   pub net : ℕ → ℕ
   pub net_back : ℕ → ℕ
   pub device : ℕ → ℕ
   pub device_back : ℕ → ℕ
-  pub nets : (n : ℕ) → n < nets-a → (net n < nets-b) × (net_back (net n) ≡ n)
-  pub nets_back : (n : ℕ) → n < nets-b → (net_back n < nets-a) × (net (net_back n) ≡ n)
+  pub nets : (n : ℕ) → n < nets_a → (net n < nets_b) × (net_back (net n) ≡ n)
+  pub nets_back : (n : ℕ) → n < nets_b → (net_back n < nets_a) × (net (net_back n) ≡ n)
   pub devices : (i : ℕ) → i < length as' → (device i < length bs) × (device_back (device i) ≡ i)
   pub devices_back : (i : ℕ) → i < length bs → (device_back i < length as') × (device (device_back i) ≡ i)
   pub keeps : (n : ℕ) → n < named → net n ≡ n

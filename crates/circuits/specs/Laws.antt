@@ -1,6 +1,7 @@
 -- What is promised of circuits. Each is a statement, a type. Assumes nothing.
 use Rattle.std.specs.Prelude.{ℕ, ◌<◌, ◌≤◌, ◌⊎◌, List, length, slice_index_or}
-use Rattle.circuits.specs.Circuits.{Device, Same}
+use Rattle.circuits.specs.Circuits.{Same}
+use Rattle.circuits.specs.declared.netlist.Device.{Device}
 
 unfoldable pub BelowNets : ℕ → List Device → (none : Device) → Type 0
 BelowNets n vs none = (i : ℕ) → i < length vs → ((slice_index_or vs i none).gate < n) × ((slice_index_or vs i none).one < n) × ((slice_index_or vs i none).other < n)

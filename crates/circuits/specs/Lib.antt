@@ -5,5 +5,6 @@ pub mod Netlists
 pub mod Pairings
 pub mod Components
 pub mod Searches
+pub mod Tasks
 pub mod Colours
 pub mod Comparisons

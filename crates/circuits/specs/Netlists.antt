@@ -1,6 +1,6 @@
 -- Netlists in numbers: devices in threes, the gate first, and how often a netlist has a device. Assumes nothing: these are definitions.
 use Rattle.std.specs.Prelude.{◌≡◌, ℕ, zero, suc, ◌+◌, ◌-◌, ◌*◌, ◌/◌, ◌<◌, ◌≤◌, Bool, true, cond, ◌&&◌, ◌||◌, List, [], ◌∷◌, length, ◌==◌, nat_le, slice_index}
-use Rattle.circuits.specs.Circuits.{Device}
+use Rattle.circuits.specs.declared.netlist.Device.{Device}
 
 unfoldable pub sum : ℕ → (ℕ → ℕ) → ℕ
 sum zero f = 0

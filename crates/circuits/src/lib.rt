@@ -9,9 +9,10 @@ pub mod law;
 pub mod netlist;
 pub mod pairing;
 pub mod search;
+mod table;
 
 use layout::refusal::Refusal;
-use netlist::is_circuit;
+use netlist::Circuit;
 use pairing::{Pairing, own_partners};
 use search::pairable;
 
@@ -33,18 +34,13 @@ pub fn compare(
 ) -> Result<Comparison, Refusal>
     ensures { ComparisonSays nets_a nets_b named a.now b.now result }
 {
-    if !is_circuit(nets_a, a) {
-        return Err(Refusal::Circuit(0));
-    }
-    if !is_circuit(nets_b, b) {
-        return Err(Refusal::Circuit(1));
-    }
+    let first = Circuit::new(nets_a, a).ok_or(Refusal::Circuit(0))?;
+    let second = Circuit::new(nets_b, b).ok_or(Refusal::Circuit(1))?;
     if named > nets_a.min(nets_b) {
         return Err(Refusal::Circuit(2));
     }
     let own = own_partners(named as usize);
-    let p = Pairing { to: own, back: own };
-    if pairable(a, b, nets_a as usize, nets_b as usize, p) {
+    if pairable(first, second, Pairing { to: own, back: own }) {
         Ok(Comparison::Equal)
     } else {
         Ok(Comparison::Unequal)

@@ -1,67 +1,69 @@
 -- Why compare does what its contract says.
-use Rattle.std.proofs.Common.{◌≤◌, sym, refl, ◌∙◌, inl, inr, arith}
+use Rattle.std.proofs.Common.{◌≡◌, ◌≤◌, true, false, Err, refl, inl, inr, arith, rules, tests}
 use Rattle.std.proofs.lemmas.Bool.{le-leb, and_from}
+use Rattle.layout.specs.declared.refusal.Refusal.TheVariants.{Circuit}
 use Rattle.circuits.specs.Comparisons.{ComparisonSays}
-use Rattle.circuits.proofs.Comparisons.{ok_netlist, names-not, named-paired, same_from, not_same}
+use Rattle.circuits.specs.Netlists.{circuit_ok}
+use Rattle.circuits.specs.Pairings.{Missing, Pairable}
+use Rattle.circuits.proofs.Comparisons.{as_given, names-not, same_from, not_same, ok_netlist}
 use Rattle.circuits.proofs.compare.Goals as goal
 
-pub returns-then-not-is_circuit : goal.returns-then-not-is_circuit
+pub returns-in_err-first : goal.returns-in_err-first
 unfolding ComparisonSays
-returns-then-not-is_circuit c = inl (refl, sym c.is_circuit.ensures ∙ c.if-not-is_circuit.true)
+returns-in_err-first c =
+    let r : c.from_residual.result ≡ Err (Circuit 0) = search (rules, tests) in
+    let bad : circuit_ok c.args.nets_a c.args.a.now ≡ false = search (rules, tests) in
+    inl (r, bad)
 
-pub returns-then-not-is_circuit-2 : goal.returns-then-not-is_circuit-2
+pub returns-in_err-second : goal.returns-in_err-second
 unfolding ComparisonSays
-returns-then-not-is_circuit-2 c =
-    inr (inl (refl, sym c.is_circuit.ensures ∙ c.if-not-is_circuit.false, sym c.is_circuit-2.ensures ∙ c.if-not-is_circuit-2.true))
+returns-in_err-second c =
+    let r : c.from_residual-in_err-second.result ≡ Err (Circuit 1) = search (rules, tests) in
+    let good : circuit_ok c.args.nets_a c.args.a.now ≡ true = search (rules, tests) in
+    let bad : circuit_ok c.args.nets_b c.args.b.now ≡ false = search (rules, tests) in
+    inr (inl (r, good, bad))
 
 pub returns-then-named-min : goal.returns-then-named-min
 unfolding ComparisonSays
 returns-then-named-min c =
-    inr (inr (inl (
-      refl,
-      sym c.is_circuit.ensures ∙ c.if-not-is_circuit.false,
-      sym c.is_circuit-2.ensures ∙ c.if-not-is_circuit-2.false,
-      names-not c.args.named c.args.nets_a c.args.nets_b (omega (arith, c.min.ensures)),
-    )))
-
-pub own_partners-own-requires : goal.own_partners-own-requires
-own_partners-own-requires c =
-    omega (arith, c.min.ensures, (ok_netlist _ _ (sym c.is_circuit.ensures ∙ c.if-not-is_circuit.false)).some)
-
-pub pairable-requires : goal.pairable-requires
-pairable-requires c =
-    let a = ok_netlist _ _ (sym c.is_circuit.ensures ∙ c.if-not-is_circuit.false) in
-    let b = ok_netlist _ _ (sym c.is_circuit-2.ensures ∙ c.if-not-is_circuit-2.false) in
-    record {
-      first = a;
-      second = b;
-      paired = named-paired _ _ _ _ (omega (arith, c.min.ensures)) (omega (arith, c.min.ensures)) a.some b.some c.own_partners-own.ensures;
-    }
+    let a : circuit_ok c.args.nets_a c.args.a.now ≡ true = search (rules, tests) in
+    let b : circuit_ok c.args.nets_b c.args.b.now ≡ true = search (rules, tests) in
+    inr (inr (inl (refl, a, b, names-not c.args.named c.args.nets_a c.args.nets_b (omega (arith, c.min.ensures)))))
 
 pub returns-then-pairable : goal.returns-then-pairable
 unfolding ComparisonSays
 returns-then-pairable c =
-    let ea = sym c.is_circuit.ensures ∙ c.if-not-is_circuit.false in
-    let eb = sym c.is_circuit-2.ensures ∙ c.if-not-is_circuit-2.false in
+    let a : circuit_ok c.args.nets_a c.args.a.now ≡ true = search (rules, tests) in
+    let b : circuit_ok c.args.nets_b c.args.b.now ≡ true = search (rules, tests) in
+    let em : c.in_ok-first.first.nets ≡ c.args.nets_a = search (rules, tests) in
+    let en : c.in_ok-second.second.nets ≡ c.args.nets_b = search (rules, tests) in
+    let ex : c.in_ok-first.first.numbers.now ≡ c.args.a.now = search (rules, tests) in
+    let ey : c.in_ok-second.second.numbers.now ≡ c.args.b.now = search (rules, tests) in
     let hm : c.args.named ≤ c.args.nets_a = omega (arith, c.min.ensures) in
     let hn : c.args.named ≤ c.args.nets_b = omega (arith, c.min.ensures) in
+    let found = as_given (λ m n xs ys. Pairable m n xs ys c.own_partners-own.result) _ _ _ _ em en ex ey c.if-pairable.ensures in
     inr (inr (inr (
-      ea,
-      eb,
+      a,
+      b,
       and_from _ _ (le-leb _ _ hm) (le-leb _ _ hn),
-      inl (refl, same_from _ _ _ _ _ (ok_netlist _ _ ea) (ok_netlist _ _ eb) _ hm c.own_partners-own.ensures c.if-pairable.ensures),
+      inl (refl, same_from _ _ _ _ _ (ok_netlist _ _ a) (ok_netlist _ _ b) _ hm c.own_partners-own.ensures found),
     )))
 
 pub returns-else-pairable : goal.returns-else-pairable
 unfolding ComparisonSays
 returns-else-pairable c =
-    let ea = sym c.is_circuit.ensures ∙ c.if-not-is_circuit.false in
-    let eb = sym c.is_circuit-2.ensures ∙ c.if-not-is_circuit-2.false in
+    let a : circuit_ok c.args.nets_a c.args.a.now ≡ true = search (rules, tests) in
+    let b : circuit_ok c.args.nets_b c.args.b.now ≡ true = search (rules, tests) in
+    let em : c.in_ok-first.first.nets ≡ c.args.nets_a = search (rules, tests) in
+    let en : c.in_ok-second.second.nets ≡ c.args.nets_b = search (rules, tests) in
+    let ex : c.in_ok-first.first.numbers.now ≡ c.args.a.now = search (rules, tests) in
+    let ey : c.in_ok-second.second.numbers.now ≡ c.args.b.now = search (rules, tests) in
     let hm : c.args.named ≤ c.args.nets_a = omega (arith, c.min.ensures) in
     let hn : c.args.named ≤ c.args.nets_b = omega (arith, c.min.ensures) in
+    let found = as_given (λ m n xs ys. Missing m n xs ys c.own_partners-own.result) _ _ _ _ em en ex ey c.if-pairable.ensures in
     inr (inr (inr (
-      ea,
-      eb,
+      a,
+      b,
       and_from _ _ (le-leb _ _ hm) (le-leb _ _ hn),
-      inr (refl, not_same _ _ _ _ _ (ok_netlist _ _ ea) (ok_netlist _ _ eb) _ hm c.own_partners-own.ensures c.if-pairable.ensures),
+      inr (refl, not_same _ _ _ _ _ (ok_netlist _ _ a) (ok_netlist _ _ b) _ hm c.own_partners-own.ensures found),
     )))
