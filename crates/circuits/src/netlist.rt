@@ -1,5 +1,5 @@
 // Circuits in numbers: devices in threes of nets, the gate first.
-ghost use Rattle.std.specs.Prelude.{◌≡◌, true, false, MatchOption, IsTrue, ◌↔◌};
+ghost use Rattle.std.specs.Prelude.{◌≡◌, true, false, MatchOption, Decides};
 ghost use Rattle.std.specs.Iterator.{YieldsFirst, item_count};
 ghost use Rattle.circuits.specs.Netlists.{has, fits, all_at_most, devices_in, circuit_ok};
 ghost use Rattle.circuits.specs.Components.{On};
@@ -34,7 +34,7 @@ impl Device {
 
     /// Whether the device is at a net.
     pub fn is_at(self, net: u8) -> bool
-        ensures { result ≡ true → On self net }
+        ensures { Decides result (On self net) }
     {
         (self.gate == net) | (self.one == net) | (self.other == net)
     }
