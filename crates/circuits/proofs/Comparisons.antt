@@ -1,17 +1,19 @@
 -- Circuits in numbers, and what is lent to the comparison. Assumes nothing.
-use Rattle.std.proofs.Common.{◌≡◌, ℕ, zero, suc, ◌+◌, ◌-◌, ◌*◌, ◌/◌, ◌%◌, ◌<◌, ◌≤◌, min, true, false, cond, ◌&&◌, eqb, leb, ltb, List, [], ◌∷◌, length, get_or, sym, refl, ap, ap₂, ◌∙◌, subst, inl, inr, arith}
+use Rattle.std.proofs.Common.{◌≡◌, ℕ, zero, suc, ◌+◌, ◌-◌, ◌*◌, ◌/◌, ◌%◌, ◌<◌, ◌≤◌, min, true, false, cond, ◌&&◌, eqb, leb, ltb, List, [], ◌∷◌, length, get_or, take, sym, refl, ap, ap₂, ◌∙◌, subst, inl, inr, arith}
 use native.Mathlib.Numerals.{add-three}
 use Rattle.std.proofs.lemmas.Bool.{cases_Bool, cases_lt, eq-eqb, eqb-true, lt-ltb, le-ltb, le-leb, lt-leb, leb-true, and_parts, and_from}
-use Rattle.std.specs.List.{list_all}
+use Rattle.std.proofs.lemmas.List.{same_lists, length-take-le, get_or-take, get_or_default, get_or_past, take_all}
+use Rattle.std.proofs.lemmas.List.Sums.{length-filter}
+use Rattle.std.specs.List.{filter, count_by, list_all}
 use Rattle.circuits.specs.Circuits.{Same}
 use Rattle.circuits.specs.declared.netlist.Device.{Device}
 use Rattle.circuits.specs.Laws.{BelowNets}
-use Rattle.circuits.specs.Netlists.{fits, weight, mapped, device_at, has, Netlist, threes, all_at_most, devices_in, none, circuit_ok}
-use Rattle.circuits.specs.Pairings.{Below, Partners, Has, at, Paired, Missing, Named, Pairable}
+use Rattle.circuits.specs.Netlists.{fits, weight, mapped, device_at, has, Netlist, threes, all_at_most, devices_in, none, circuit_ok, Below}
+use Rattle.circuits.specs.Pairings.{Partners, Free, Has, at, Paired, Missing, Named, Pairable}
 use Rattle.std.specs.Option.{unwrap_or}
 use Rattle.circuits.proofs.Partners.{held}
-use Rattle.circuits.proofs.Sums.{sum-cong}
-use Rattle.circuits.proofs.Isos.{W, to-iso, from-iso}
+use Rattle.circuits.proofs.Sums.{sum_by-is}
+use Rattle.circuits.proofs.Isos.{to-iso, from-iso}
 
 pub threes-is : (xs : List ℕ) → threes xs ≡ length xs / 3
 unfolding threes
@@ -30,7 +32,10 @@ devices-length (a ∷ (b ∷ (c ∷ xs))) = omega (arith, devices-length xs)
 getD_three : (a b c : ℕ) (xs : List ℕ) (k : ℕ) → get_or (a ∷ (b ∷ (c ∷ xs))) (k + 3) 0 ≡ get_or xs k 0
 getD_three a b c xs k = ap (λ n. get_or (a ∷ (b ∷ (c ∷ xs))) n 0) (add-three k)
 
-device-three : (a b c : ℕ) (xs : List ℕ) (i : ℕ) → device_at (a ∷ (b ∷ (c ∷ xs))) (suc i) ≡ device_at xs i
+abbrev pub three_at : List ℕ → ℕ → Device
+three_at xs i = record { gate = get_or xs (3 * i) 0; one = get_or xs (3 * i + 1) 0; other = get_or xs (3 * i + 2) 0 }
+
+device-three : (a b c : ℕ) (xs : List ℕ) (i : ℕ) → three_at (a ∷ (b ∷ (c ∷ xs))) (suc i) ≡ three_at xs i
 device-three a b c xs i =
     let zs = a ∷ (b ∷ (c ∷ xs)) in
     let i₀ : 3 * suc i ≡ 3 * i + 3 = omega arith in
@@ -41,18 +46,13 @@ device-three a b c xs i =
     let q : get_or zs (3 * suc i + 2) 0 ≡ get_or xs (3 * i + 2) 0 = ap (λ n. get_or zs n 0) i₂ ∙ getD_three a b c xs (3 * i + 2) in
     λ t. record { gate = g t; one = p t; other = q t }
 
-pub devices-at : (xs : List ℕ) (i : ℕ) → i < length xs / 3 → get_or (devices_in xs) i none ≡ device_at xs i
+pub devices-at : (xs : List ℕ) (i : ℕ) → i < length xs / 3 → get_or (devices_in xs) i none ≡ three_at xs i
 unfolding devices_in
 devices-at [] i h = absurd (omega arith)
 devices-at (a ∷ []) i h = absurd (omega arith)
 devices-at (a ∷ (b ∷ [])) i h = absurd (omega arith)
 devices-at (a ∷ (b ∷ (c ∷ xs))) zero h = refl
 devices-at (a ∷ (b ∷ (c ∷ xs))) (suc i) h = devices-at xs i (omega arith) ∙ sym (device-three a b c xs i)
-
-pub has_devices : (xs : List ℕ) (t : Device) → W (devices_in xs) none t ≡ has xs t
-has_devices xs t =
-    ap (λ k. weight k (λ i. get_or (devices_in xs) i none) t) (devices-length xs)
-    ∙ sum-cong (length xs / 3) _ _ (λ i l. ap (λ p. cond (fits p t) 1 0) (devices-at xs i l))
 
 pub at_most_all : (m : ℕ) (xs : List ℕ) → all_at_most m xs ≡ true → (k : ℕ) → k < length xs → get_or xs k 0 ≤ m
 unfolding all_at_most
@@ -113,21 +113,45 @@ sound_ok n xs a b c d =
 pub unsound : (n : ℕ) (xs : List ℕ) → (Sound n xs → ⊥) → false ≡ circuit_ok n xs
 unsound n xs h = elim (cases_Bool (circuit_ok n xs)) [ inl e ↦ absurd (h (ok_sound n xs e)) | inr e ↦ sym e ]
 
-pub ok_netlist : (n : ℕ) (xs : List ℕ) → circuit_ok n xs ≡ true → Netlist n xs
+pub ok_low : (n : ℕ) (xs : List ℕ) → circuit_ok n xs ≡ true → (k : ℕ) → k < length xs → get_or xs k 0 < n
+ok_low n xs e k l = let s = ok_sound n xs e in omega (arith, at_most_all (n - 1) xs s.low k l, s.some)
+
+pub ok_byte : (n : ℕ) (xs : List ℕ) → circuit_ok n xs ≡ true → (k : ℕ) → k < length xs → get_or xs k 0 ≤ 255
+ok_byte n xs e k l = omega (arith, ok_low n xs e k l, (ok_sound n xs e).nets)
+
+pub ok_netlist : (n : ℕ) (xs : List ℕ) → circuit_ok n xs ≡ true → Netlist n (devices_in xs)
 ok_netlist n xs e =
     let s = ok_sound n xs e in
     record {
       some = s.nets;
-      few = s.few;
-      nets = λ i l. omega (arith, at_most_all (n - 1) xs s.low i l, s.some);
-      threes = omega (arith, s.threes);
+      few = omega (arith, s.few, devices-length xs);
+      nets = λ i l.
+          let k : i < length xs / 3 = omega (arith, l, devices-length xs) in
+          subst (Below n) (sym (devices-at xs i k)) (ok_low n xs e (3 * i) (omega arith), ok_low n xs e (3 * i + 1) (omega arith), ok_low n xs e (3 * i + 2) (omega arith));
     }
 
-ok_below : (n : ℕ) (xs : List ℕ) → Netlist n xs → BelowNets n (devices_in xs) none
-unfolding BelowNets
-ok_below n xs c i l =
-    let k : i < length xs / 3 = omega (arith, devices-length xs) in
-    subst (Below n) (sym (devices-at xs i k)) (c.nets (3 * i) (omega arith), c.nets (3 * i + 1) (omega arith), c.nets (3 * i + 2) (omega arith))
+-- the device at a place, as it is read
+pub read-there : (xs : List ℕ) (i : ℕ) → 3 * i + 2 < length xs → three_at xs i ≡ get_or (devices_in xs) i none
+read-there xs i h = sym (devices-at xs i (omega arith))
+
+pub read-behind : (xs : List ℕ) (i : ℕ) → length xs ≤ 3 * i + 2 → none ≡ get_or (devices_in xs) i none
+read-behind xs i h = sym (get_or_past (devices_in xs) i none (omega (arith, devices-length xs)))
+
+-- a room whose front has been read
+pub room_is : (xs : List ℕ) (room : List Device) → length room ≡ 256 → length xs / 3 ≤ 256 → ((i : ℕ) → i < 256 → get_or room i none ≡ get_or (devices_in xs) i none) → take (length xs / 3) room ≡ devices_in xs
+room_is xs room long few h =
+    let fits = length-take-le (length xs / 3) room (omega arith) in
+    same_lists (take (length xs / 3) room) (devices_in xs) (fits ∙ sym (devices-length xs))
+    (λ k d l.
+    get_or-take (length xs / 3) room k d (omega (arith, l, fits))
+    ∙ (get_or_default room k d none (omega (arith, l, fits))
+    ∙ (h k (omega (arith, l, fits)) ∙ get_or_default (devices_in xs) k none d (omega (arith, l, fits, devices-length xs)))))
+
+-- a count of the devices that pass
+pub filtered : (vs : List Device) (t : Device) → length (filter (λ p. fits p t) vs) ≡ has vs t
+filtered vs t =
+    length-filter (λ p. fits p t) vs
+    ∙ (ap (count_by (λ p. fits p t)) (sym (take_all (length vs) vs (omega arith))) ∙ sum_by-is (λ p. cond (fits p t) 1 0) vs none (length vs) (omega arith))
 
 pub named-paired : (m n named : ℕ) (to : Partners) → named ≤ m → named ≤ n → m ≤ 256 → n ≤ 256 → Named named to → Paired m n to to
 named-paired m n named to hm hn sm sn p =
@@ -141,18 +165,19 @@ named-paired m n named to hm hn sm sn p =
     named-low x l q = elim (cases_lt x named) [ inl w ↦ w | inr w ↦ absurd (q (p.high x l w)) ]
 
 -- the entry's answer, both ways
-module _ (m n named : ℕ) (xs ys : List ℕ) (ca : Netlist m xs) (cb : Netlist n ys) (to : Partners) (hm : named ≤ m) (p : Named named to) where
-  pub same_from : Pairable m n xs ys to → Same m n (devices_in xs) (devices_in ys) named none
+module _ (m n named : ℕ) (as' bs : List Device) (ca : Netlist m as') (cb : Netlist n bs) (to : Partners) (hm : named ≤ m) (p : Named named to) where
+  below_nets : (n : ℕ) (vs : List Device) → Netlist n vs → BelowNets n vs none
+  unfolding BelowNets
+  below_nets n vs c i l = c.nets i l
+
+  pub same_from : Pairable m n as' bs to → Same m n as' bs named none
   same_from w =
-      from-iso m n (devices_in xs) (devices_in ys) named none (ok_below m xs ca) w.0 w.1 (ok_below n ys cb)
-      (record { pairs = w.2.pairs; weigh = λ t l. has_devices ys (mapped w.0 t) ∙ (w.2.weigh t l ∙ sym (has_devices xs t)) })
+      from-iso m n as' bs named none (below_nets m as' ca) w.0 w.1 (below_nets n bs cb) w.2
       (λ x l. let e : at to x ≡ x = ap (λ o. unwrap_or o 256) (p.low x (omega (arith, ca.some)) l) in w.3 x (omega arith) (held to x x e (omega (arith, ca.some))) ∙ e)
 
-  pub not_same : Missing m n xs ys to → Same m n (devices_in xs) (devices_in ys) named none → ⊥
+  pub not_same : Missing m n as' bs to → Same m n as' bs named none → ⊥
   not_same h s =
-      let iso = to-iso m n (devices_in xs) (devices_in ys) named none (ok_below m xs ca) s in
-      h s.net s.net_back
-      (record { pairs = iso.pairs; weigh = λ t l. sym (has_devices ys (mapped s.net t)) ∙ (iso.weigh t l ∙ has_devices xs t) })
+      h s.net s.net_back (to-iso m n as' bs named none (below_nets m as' ca) s)
       (λ x l q. elim (cases_lt x named) [ inl w ↦ s.keeps x w ∙ sym (ap (λ o. unwrap_or o 256) (p.low x (omega (arith, ca.some)) w)) | inr w ↦ absurd (q (p.high x (omega (arith, ca.some)) w)) ])
 
 pub names-not : (named m n : ℕ) → min m n < named → (leb named m && leb named n) ≡ false
@@ -161,9 +186,9 @@ names-not named m n h = elim (cases_Bool (leb named m && leb named n)) [
   | inr e ↦ e
 ]
 
--- what holds of two circuits as they were checked holds of them as they were given
+-- what holds of two circuits as they were made holds of them as they were given
 pub as_given :
-    (P : ℕ → ℕ → List ℕ → List ℕ → Type 0) (m n : ℕ) (xs ys : List ℕ) {m' n' : ℕ} {xs' ys' : List ℕ} → m ≡ m' → n ≡ n' → xs ≡ xs' → ys ≡ ys' →
-    P m n xs ys → P m' n' xs' ys'
-as_given P m n xs ys {m'} {n'} {xs'} em en ex ey h =
-    subst (P m' n' xs') ey (subst (λ v. P m' n' v ys) ex (subst (λ v. P m' v xs ys) en (subst (λ v. P v n xs ys) em h)))
+    (P : ℕ → ℕ → List Device → List Device → Type 0) (m n : ℕ) (as' bs : List Device) {m' n' : ℕ} {as'' bs' : List Device} → m ≡ m' → n ≡ n' → as' ≡ as'' → bs ≡ bs' →
+    P m n as' bs → P m' n' as'' bs'
+as_given P m n as' bs {m'} {n'} {as''} em en ea eb h =
+    subst (P m' n' as'') eb (subst (λ v. P m' n' v bs) ea (subst (λ v. P m' v as' bs) en (subst (λ v. P v n as' bs) em h)))

@@ -4,6 +4,7 @@ mod Tables
 pub mod Devices
 pub mod Isos
 pub mod Laws
+mod Checked
 pub mod Partners
 pub mod Pairings
 pub mod Exchange
@@ -11,6 +12,5 @@ pub mod Reaches
 pub mod Searches
 pub mod Automorphisms
 pub mod Comparisons
-pub mod Walks
 pub mod Colours
 pub mod Deciding

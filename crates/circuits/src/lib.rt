@@ -12,7 +12,7 @@ pub mod search;
 mod table;
 
 use layout::refusal::Refusal;
-use netlist::Circuit;
+use netlist::{Circuit, is_circuit, read};
 use pairing::{Pairing, own_partners};
 use search::pairable;
 
@@ -34,11 +34,18 @@ pub fn compare(
 ) -> Result<Comparison, Refusal>
     ensures { ComparisonSays nets_a nets_b named a.now b.now result }
 {
-    let first = Circuit::new(nets_a, a).ok_or(Refusal::Circuit(0))?;
-    let second = Circuit::new(nets_b, b).ok_or(Refusal::Circuit(1))?;
+    if !is_circuit(nets_a, a) {
+        return Err(Refusal::Circuit(0));
+    }
+    if !is_circuit(nets_b, b) {
+        return Err(Refusal::Circuit(1));
+    }
     if named > nets_a.min(nets_b) {
         return Err(Refusal::Circuit(2));
     }
+    let (room_a, room_b) = (read(a), read(b));
+    let first = Circuit::new(nets_a, a, &room_a);
+    let second = Circuit::new(nets_b, b, &room_b);
     let own = own_partners(named as usize);
     if pairable(first, second, Pairing { to: own, back: own }) {
         Ok(Comparison::Equal)

@@ -1,8 +1,9 @@
-// Circuits in numbers: devices in threes of nets, the gate first.
-ghost use Rattle.std.specs.Prelude.{◌≡◌, true, false, MatchOption, Decides};
-ghost use Rattle.std.specs.Iterator.{YieldsFirst, item_count};
-ghost use Rattle.circuits.specs.Netlists.{has, fits, all_at_most, devices_in, circuit_ok};
+// Circuits: devices over nets, as they are read from numbers in threes, the gate first.
+ghost use Rattle.std.specs.Prelude.{◌≡◌, ℕ, ◌<◌, ◌≤◌, true, Decides, length, slice_index, slice_index_or};
+ghost use Rattle.circuits.specs.Netlists.{has, fits, Below, device_at, none, devices_in, circuit_ok};
 ghost use Rattle.circuits.specs.Components.{On};
+
+use super::table::table;
 
 /// The most devices that a circuit has.
 const MAX_DEVICES: usize = 256;
@@ -40,34 +41,6 @@ impl Device {
     }
 }
 
-/// The devices of a circuit, one after the other.
-#[derive(Drop)]
-pub struct Devices<'a> {
-    rest: &'a [u64],
-    ghost low: { all_at_most 255 rest.now ≡ true },
-}
-
-impl<'a> Iterator for Devices<'a> {
-    type Item = Device;
-
-    ghost next_gives = { YieldsFirst (λ s. devices_in s.rest.now) };
-
-    ghost remaining = { item_count (λ s. devices_in s.rest.now) };
-
-    fn next(&mut self) -> Option<Device> {
-        let [gate, one, other, rest @ ..] = self.rest else {
-            return None;
-        };
-        let device = Device {
-            gate: *gate as u8,
-            one: *one as u8,
-            other: *other as u8,
-        };
-        *self = Devices { rest };
-        Some(device)
-    }
-}
-
 /// A circuit with so many nets: threes, at most 256 of them, over 1 to 256 nets.
 pub fn is_circuit(nets: u64, numbers: &[u64]) -> bool
     ensures { result ≡ circuit_ok nets numbers.now }
@@ -87,38 +60,65 @@ pub fn is_circuit(nets: u64, numbers: &[u64]) -> bool
     numbers.iter().all(|net| *net < nets)
 }
 
-/// A circuit that is checked, with its devices in threes of numbers.
+/// The device at a place of a circuit in numbers; behind the last, one of no meaning.
+fn read_device(numbers: &[u64], place: u8) -> Device
+    requires { (k : ℕ) → k < length numbers.now → slice_index numbers.now k ≤ 255 }
+    ensures { result ≡ slice_index_or (devices_in numbers.now) place none }
+{
+    let first = 3 * usize::from(place);
+    if first + 2 >= numbers.len() {
+        return Device {
+            gate: 0,
+            one: 0,
+            other: 0,
+        };
+    }
+    Device {
+        gate: numbers[first] as u8,
+        one: numbers[first + 1] as u8,
+        other: numbers[first + 2] as u8,
+    }
+}
+
+/// The devices of a circuit in numbers, small enough that the search goes over them fast.
+pub fn read(numbers: &[u64]) -> [Device; 256]
+    requires { (k : ℕ) → k < length numbers.now → slice_index numbers.now k ≤ 255 }
+    ensures { (i : ℕ) → i < 256 → slice_index_or result i none ≡ slice_index_or (devices_in numbers.now) i none }
+{
+    table(|place| read_device(numbers, place))
+}
+
+/// A circuit that is checked: at most 256 devices over 1 to 256 nets.
 #[derive(Clone, Copy)]
 pub struct Circuit<'a> {
     pub nets: usize,
-    pub numbers: &'a [u64],
-    ghost sound: { circuit_ok nets numbers.now ≡ true },
+    pub devices: &'a [Device],
+    ghost some: { nets ≤ 256 },
+    ghost few: { length devices.now ≤ 256 },
+    ghost low: { (i : ℕ) → i < length devices.now → Below nets (device_at devices.now i) },
 }
 
 impl<'a> Circuit<'a> {
-    /// The circuit that numbers say, if they say one.
-    pub fn new(nets: u64, numbers: &'a [u64]) -> Option<Circuit<'a>>
-        ensures { MatchOption result (circuit_ok nets numbers.now ≡ false) (λ c. (c.nets ≡ nets) × (c.numbers.now ≡ numbers.now)) }
+    /// The circuit that numbers say, where they say one, and its devices have been read.
+    pub fn new(nets: u64, numbers: &[u64], room: &'a [Device; 256]) -> Circuit<'a>
+        requires circuit { circuit_ok nets numbers.now ≡ true }
+        requires read { (i : ℕ) → i < 256 → slice_index_or room.now i none ≡ slice_index_or (devices_in numbers.now) i none }
+        ensures nets { result.nets ≡ nets }
+        ensures devices { result.devices.now ≡ devices_in numbers.now }
     {
-        if !is_circuit(nets, numbers) {
-            return None;
-        }
-        Some(Circuit {
+        Circuit {
             nets: nets as usize,
-            numbers,
-        })
-    }
-
-    pub fn devices(&self) -> Devices<'a>
-        ensures { result.rest.now ≡ self.now.numbers.now }
-    {
-        Devices { rest: self.numbers }
+            devices: &room[..numbers.len() / 3],
+        }
     }
 
     /// How many devices have this one's gate and its ends, in either order.
     pub fn count(&self, device: Device) -> usize
-        ensures { result ≡ has self.now.numbers.now device }
+        ensures { result ≡ has self.now.devices.now device }
     {
-        self.devices().filter(|other| other.fits(device)).count()
+        self.devices
+            .iter()
+            .filter(|other| other.fits(device))
+            .count()
     }
 }

@@ -1,47 +1,47 @@
 -- Why compare does what its contract says.
-use Rattle.std.proofs.Common.{◌≡◌, ◌≤◌, true, false, Err, refl, inl, inr, arith, rules, tests}
+use Rattle.std.proofs.Common.{◌≡◌, ◌≤◌, true, sym, refl, ◌∙◌, inl, inr, arith}
 use Rattle.std.proofs.lemmas.Bool.{le-leb, and_from}
-use Rattle.layout.specs.declared.refusal.Refusal.TheVariants.{Circuit}
 use Rattle.circuits.specs.Comparisons.{ComparisonSays}
 use Rattle.circuits.specs.Netlists.{circuit_ok}
 use Rattle.circuits.specs.Pairings.{Missing, Pairable}
-use Rattle.circuits.proofs.Comparisons.{as_given, names-not, same_from, not_same, ok_netlist}
+use Rattle.circuits.proofs.Comparisons.{as_given, ok_byte, ok_netlist, names-not, named-paired, same_from, not_same}
 use Rattle.circuits.proofs.compare.Goals as goal
 
-pub returns-in_err-first : goal.returns-in_err-first
+pub returns-then-not-is_circuit : goal.returns-then-not-is_circuit
 unfolding ComparisonSays
-returns-in_err-first c =
-    let r : c.from_residual.result ≡ Err (Circuit 0) = search (rules, tests) in
-    let bad : circuit_ok c.args.nets_a c.args.a.now ≡ false = search (rules, tests) in
-    inl (r, bad)
+returns-then-not-is_circuit c = inl (refl, sym c.is_circuit.ensures ∙ c.if-not-is_circuit.true)
 
-pub returns-in_err-second : goal.returns-in_err-second
+pub returns-then-not-is_circuit-2 : goal.returns-then-not-is_circuit-2
 unfolding ComparisonSays
-returns-in_err-second c =
-    let r : c.from_residual-in_err-second.result ≡ Err (Circuit 1) = search (rules, tests) in
-    let good : circuit_ok c.args.nets_a c.args.a.now ≡ true = search (rules, tests) in
-    let bad : circuit_ok c.args.nets_b c.args.b.now ≡ false = search (rules, tests) in
-    inr (inl (r, good, bad))
+returns-then-not-is_circuit-2 c =
+    inr (inl (refl, sym c.is_circuit.ensures ∙ c.if-not-is_circuit.false, sym c.is_circuit-2.ensures ∙ c.if-not-is_circuit-2.true))
 
 pub returns-then-named-min : goal.returns-then-named-min
 unfolding ComparisonSays
 returns-then-named-min c =
-    let a : circuit_ok c.args.nets_a c.args.a.now ≡ true = search (rules, tests) in
-    let b : circuit_ok c.args.nets_b c.args.b.now ≡ true = search (rules, tests) in
-    inr (inr (inl (refl, a, b, names-not c.args.named c.args.nets_a c.args.nets_b (omega (arith, c.min.ensures)))))
+    inr (inr (inl (
+      refl,
+      sym c.is_circuit.ensures ∙ c.if-not-is_circuit.false,
+      sym c.is_circuit-2.ensures ∙ c.if-not-is_circuit-2.false,
+      names-not c.args.named c.args.nets_a c.args.nets_b (omega (arith, c.min.ensures)),
+    )))
+
+pub read-room_a-requires : goal.read-room_a-requires
+read-room_a-requires c = ok_byte _ _ (sym c.is_circuit.ensures ∙ c.if-not-is_circuit.false)
+
+pub read-room_b-requires : goal.read-room_b-requires
+read-room_b-requires c = ok_byte _ _ (sym c.is_circuit-2.ensures ∙ c.if-not-is_circuit-2.false)
 
 pub returns-then-pairable : goal.returns-then-pairable
 unfolding ComparisonSays
 returns-then-pairable c =
-    let a : circuit_ok c.args.nets_a c.args.a.now ≡ true = search (rules, tests) in
-    let b : circuit_ok c.args.nets_b c.args.b.now ≡ true = search (rules, tests) in
-    let em : c.in_ok-first.first.nets ≡ c.args.nets_a = search (rules, tests) in
-    let en : c.in_ok-second.second.nets ≡ c.args.nets_b = search (rules, tests) in
-    let ex : c.in_ok-first.first.numbers.now ≡ c.args.a.now = search (rules, tests) in
-    let ey : c.in_ok-second.second.numbers.now ≡ c.args.b.now = search (rules, tests) in
+    let a = sym c.is_circuit.ensures ∙ c.if-not-is_circuit.false in
+    let b = sym c.is_circuit-2.ensures ∙ c.if-not-is_circuit-2.false in
     let hm : c.args.named ≤ c.args.nets_a = omega (arith, c.min.ensures) in
     let hn : c.args.named ≤ c.args.nets_b = omega (arith, c.min.ensures) in
-    let found = as_given (λ m n xs ys. Pairable m n xs ys c.own_partners-own.result) _ _ _ _ em en ex ey c.if-pairable.ensures in
+    let first = c.new-first.ensures in
+    let second = c.new-second.ensures in
+    let found = as_given (λ m n as' bs. Pairable m n as' bs c.own_partners-own.result) _ _ _ _ first.nets second.nets first.devices second.devices c.if-pairable.ensures in
     inr (inr (inr (
       a,
       b,
@@ -52,15 +52,13 @@ returns-then-pairable c =
 pub returns-else-pairable : goal.returns-else-pairable
 unfolding ComparisonSays
 returns-else-pairable c =
-    let a : circuit_ok c.args.nets_a c.args.a.now ≡ true = search (rules, tests) in
-    let b : circuit_ok c.args.nets_b c.args.b.now ≡ true = search (rules, tests) in
-    let em : c.in_ok-first.first.nets ≡ c.args.nets_a = search (rules, tests) in
-    let en : c.in_ok-second.second.nets ≡ c.args.nets_b = search (rules, tests) in
-    let ex : c.in_ok-first.first.numbers.now ≡ c.args.a.now = search (rules, tests) in
-    let ey : c.in_ok-second.second.numbers.now ≡ c.args.b.now = search (rules, tests) in
+    let a = sym c.is_circuit.ensures ∙ c.if-not-is_circuit.false in
+    let b = sym c.is_circuit-2.ensures ∙ c.if-not-is_circuit-2.false in
     let hm : c.args.named ≤ c.args.nets_a = omega (arith, c.min.ensures) in
     let hn : c.args.named ≤ c.args.nets_b = omega (arith, c.min.ensures) in
-    let found = as_given (λ m n xs ys. Missing m n xs ys c.own_partners-own.result) _ _ _ _ em en ex ey c.if-pairable.ensures in
+    let first = c.new-first.ensures in
+    let second = c.new-second.ensures in
+    let found = as_given (λ m n as' bs. Missing m n as' bs c.own_partners-own.result) _ _ _ _ first.nets second.nets first.devices second.devices c.if-pairable.ensures in
     inr (inr (inr (
       a,
       b,
