@@ -3,8 +3,7 @@ use Rattle.std.proofs.Common.{◌≡◌, ℕ, zero, suc, ◌+◌, ◌-◌, ◌*�
 use native.Mathlib.Numerals.{add-three}
 use Rattle.std.proofs.lemmas.Bool.{cases_Bool, cases_lt, eq-eqb, eqb-true, lt-ltb, le-ltb, le-leb, lt-leb, leb-true, and_parts, and_from}
 use Rattle.std.proofs.lemmas.List.{same_lists, length-take-le, get_or-take, get_or_default, get_or_past, take_all}
-use Rattle.std.proofs.lemmas.List.Sums.{length-filter}
-use Rattle.std.specs.List.{filter, count_by, list_all}
+use Rattle.std.specs.List.{list_all, sum_by}
 use Rattle.circuits.specs.Circuits.{Same}
 use Rattle.circuits.specs.declared.netlist.Device.{Device}
 use Rattle.circuits.specs.Laws.{BelowNets}
@@ -147,11 +146,9 @@ room_is xs room long few h =
     ∙ (get_or_default room k d none (omega (arith, l, fits))
     ∙ (h k (omega (arith, l, fits)) ∙ get_or_default (devices_in xs) k none d (omega (arith, l, fits, devices-length xs)))))
 
--- a count of the devices that pass
-pub filtered : (vs : List Device) (t : Device) → length (filter (λ p. fits p t) vs) ≡ has vs t
-filtered vs t =
-    length-filter (λ p. fits p t) vs
-    ∙ (ap (count_by (λ p. fits p t)) (sym (take_all (length vs) vs (omega arith))) ∙ sum_by-is (λ p. cond (fits p t) 1 0) vs none (length vs) (omega arith))
+-- how many devices of a list are like one
+pub counted : (vs : List Device) (t : Device) → sum_by (λ p. cond (fits p t) 1 0) vs ≡ has vs t
+counted vs t = ap (sum_by (λ p. cond (fits p t) 1 0)) (sym (take_all (length vs) vs (omega arith))) ∙ sum_by-is (λ p. cond (fits p t) 1 0) vs none (length vs) (omega arith)
 
 pub named-paired : (m n named : ℕ) (to : Partners) → named ≤ m → named ≤ n → m ≤ 256 → n ≤ 256 → Named named to → Paired m n to to
 named-paired m n named to hm hn sm sn p =

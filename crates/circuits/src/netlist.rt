@@ -20,17 +20,13 @@ pub struct Device {
 }
 
 impl Device {
-    /// The same gate and the same ends, in either order.
+    /// The same gate and the same ends, in either order: with no branch, as most devices differ.
     fn fits(self, device: Device) -> bool
         ensures { result ≡ fits self device }
     {
-        if self.gate != device.gate {
-            return false;
-        }
-        if self.one == device.one && self.other == device.other {
-            return true;
-        }
-        self.one == device.other && self.other == device.one
+        let same = (self.one == device.one) & (self.other == device.other);
+        let swapped = (self.one == device.other) & (self.other == device.one);
+        (self.gate == device.gate) & (same | swapped)
     }
 
     /// Whether the device is at a net.
@@ -118,7 +114,7 @@ impl<'a> Circuit<'a> {
     {
         self.devices
             .iter()
-            .filter(|other| other.fits(device))
-            .count()
+            .map(|other| usize::from(other.fits(device)))
+            .sum()
     }
 }
