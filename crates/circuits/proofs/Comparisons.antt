@@ -7,8 +7,8 @@ use Rattle.std.specs.List.{list_all, sum_by}
 use Rattle.circuits.specs.Circuits.{Same}
 use Rattle.circuits.specs.declared.netlist.Device.{Device}
 use Rattle.circuits.specs.Laws.{BelowNets}
-use Rattle.circuits.specs.Netlists.{fits, weight, mapped, device_at, has, Netlist, threes, all_at_most, devices_in, none, circuit_ok, Below}
-use Rattle.circuits.specs.Pairings.{Partners, Free, Has, at, Paired, Missing, Named, Pairable}
+use Rattle.circuits.specs.Netlists.{fits, has, Netlist, threes, all_at_most, devices_in, none, circuit_ok, Below}
+use Rattle.circuits.specs.Pairings.{Partners, Has, at, Paired, Missing, Named, Pairable}
 use Rattle.std.specs.Option.{unwrap_or}
 use Rattle.circuits.proofs.Partners.{held}
 use Rattle.circuits.proofs.Sums.{sum_by-is}

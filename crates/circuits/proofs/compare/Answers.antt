@@ -1,10 +1,9 @@
 -- Why compare does what its contract says.
-use Rattle.std.proofs.Common.{◌≡◌, ◌≤◌, true, sym, refl, ◌∙◌, inl, inr, arith}
+use Rattle.std.proofs.Common.{◌≤◌, sym, refl, ◌∙◌, inl, inr, arith}
 use Rattle.std.proofs.lemmas.Bool.{le-leb, and_from}
 use Rattle.circuits.specs.Comparisons.{ComparisonSays}
-use Rattle.circuits.specs.Netlists.{circuit_ok}
 use Rattle.circuits.specs.Pairings.{Missing, Pairable}
-use Rattle.circuits.proofs.Comparisons.{as_given, ok_byte, ok_netlist, names-not, named-paired, same_from, not_same}
+use Rattle.circuits.proofs.Comparisons.{as_given, ok_byte, ok_netlist, names-not, same_from, not_same}
 use Rattle.circuits.proofs.compare.Goals as goal
 
 pub returns-then-not-is_circuit : goal.returns-then-not-is_circuit

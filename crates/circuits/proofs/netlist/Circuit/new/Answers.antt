@@ -1,6 +1,6 @@
 -- Why new does what its contract says.
 use Rattle.std.proofs.Common.{◌≡◌, ℕ, ◌<◌, length, sym, ap, subst, arith, rules}
-use Rattle.circuits.specs.Netlists.{Below, device_at, devices_in}
+use Rattle.circuits.specs.Netlists.{Below, device_at}
 use Rattle.circuits.proofs.Comparisons.{ok_sound, ok_netlist, room_is}
 use Rattle.circuits.proofs.netlist.Circuit.new.Goals as goal
 
