@@ -16,10 +16,7 @@ fn permutation(
     fixed: u64,
     random: &mut Random,
 ) -> Result<Vec<u64>, AllocError> {
-    let mut out = Vec::new(heap);
-    for i in 0..n {
-        out.push(i)?;
-    }
+    let mut out: Vec<u64> = (0..n).collect(heap)?;
     for i in fixed..n {
         let j = fixed.saturating_add(random.below((i - fixed).saturating_add(1)));
         let (at, with) = (i as usize, j as usize);
