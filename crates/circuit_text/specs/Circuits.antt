@@ -1,8 +1,7 @@
 -- A circuit by the names of its nets. Assumes nothing: these are definitions.
 use Rattle.std.specs.Prelude.{ℕ, List, [], ◌∷◌, ◌++◌, map, length, None, vec_items, Option}
-use Rattle.words.specs.Words.{token_at}
 use Rattle.words.specs.Names.{names_of}
-use Rattle.words.specs.Chains.{place_of}
+use Rattle.words.specs.Places.{place_of}
 use Rattle.words.specs.Steps.{by_some}
 use Rattle.words.specs.declared.word.Word.{Word}
 use Rattle.circuit_text.specs.declared.circuit.Pins.{Pins}
@@ -32,5 +31,5 @@ abbrev pub named_by : Circuit → List (List ℕ) → Circuit
 named_by c ns = record { names = ns; pins = c.pins; devices = c.devices }
 
 -- how words are spelled
-abbrev pub spelled : List ℕ → List Word → List (List ℕ)
-spelled text ws = map (λ w. (token_at text w).bytes) ws
+abbrev pub spelled : List Word → List (List ℕ)
+spelled ws = map (λ w. w.bytes.now) ws

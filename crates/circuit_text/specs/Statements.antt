@@ -6,7 +6,7 @@ use Rattle.layout.specs.declared.refusal.Fault.TheVariants.{Refused, Memory}
 use Rattle.layout.specs.declared.refusal.Refusal.TheVariants.{Text}
 use Rattle.layout.specs.Refusals.{place_of as place_in}
 use Rattle.words.specs.Words.{words_of}
-use Rattle.words.specs.Chains.{place_of}
+use Rattle.words.specs.Places.{place_of}
 use Rattle.words.specs.Steps.{by_some, and_then}
 use Rattle.words.specs.declared.word.Marks.TheVariants.{Plain}
 use Rattle.circuit_text.specs.Circuits.{Circuit, net_of, with_net}

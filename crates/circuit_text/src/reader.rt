@@ -4,36 +4,22 @@ ghost use Rattle.circuit_text.specs.CircuitTexts.{LinesRead, CircuitRead};
 use super::circuit::CircuitText;
 use layout::refusal::{Fault, Refusal};
 use std::alloc::Global;
-use words::line::last_line;
+use words::line::{Lines, last_line};
 use words::name::Names;
-use words::word::{Word, line_end};
 
 // All lines, one after another.
 fn read_lines(heap: Global, text: &[u8]) -> Result<CircuitText, Fault>
     ensures { LinesRead text.now result }
 {
-    let names = Names::new(heap)?;
     let mut circuit = CircuitText {
-        names,
+        names: Names::new(heap),
         pins: None,
         devices: Vec::new(heap),
     };
-    let mut at = 0;
-    let mut line = 0;
-    loop {
-        let end = line_end(text, at);
-        let row = Word {
-            start: at,
-            end,
-            line,
-        };
-        circuit.read_line(heap, row.bytes(text), line)?;
-        if end >= text.len() {
-            return Ok(circuit);
-        }
-        at = end + 1;
-        line += 1;
+    for (line, row) in Lines::of(text).enumerate() {
+        circuit.read_line(heap, row, line)?;
     }
+    Ok(circuit)
 }
 
 /// Reads a circuit text. One that never names its pins ends too early.

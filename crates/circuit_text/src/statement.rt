@@ -1,6 +1,5 @@
 // The statements of a circuit text.
 ghost use Rattle.std.specs.Prelude.{◌≡◌, map, IfOk, OnOk};
-ghost use Rattle.words.specs.Words.{token_at};
 ghost use Rattle.words.specs.Names.{names_of};
 ghost use Rattle.circuit_text.specs.Circuits.{circuit_of, net_of, with_net, named_by, spelled};
 ghost use Rattle.circuit_text.specs.Statements.{pinned, joined, stated, Follows};
@@ -8,7 +7,7 @@ ghost use Rattle.circuit_text.specs.Statements.{pinned, joined, stated, Follows}
 use super::circuit::{CircuitText, Pins};
 use layout::refusal::{Fault, Refusal};
 use std::alloc::{AllocError, Global};
-use words::word::{Marks, Word, same, split};
+use words::word::{Marks, Word, split};
 
 impl CircuitText {
     // The net of a name, a new one where it is new.
@@ -25,20 +24,14 @@ impl CircuitText {
     }
 
     // The pins: once, and each name once.
-    fn read_pins(
-        &mut self,
-        heap: Global,
-        text: &[u8],
-        words: &[Word],
-        line: usize,
-    ) -> Result<(), Fault>
-        ensures { Follows (pinned line (circuit_of self.old) (spelled text.now words.now)) (circuit_of self.new) result }
+    fn read_pins(&mut self, heap: Global, words: &[Word], line: usize) -> Result<(), Fault>
+        ensures { Follows (pinned line (circuit_of self.old) (spelled words.now)) (circuit_of self.new) result }
     {
         if self.pins.is_some() {
             return Err(Fault::Refused(Refusal::Text(line)));
         }
         for word in words {
-            let name = word.bytes(text);
+            let name = word.bytes;
             if self.names.find(name).is_some() {
                 return Err(Fault::Refused(Refusal::Text(line)));
             }
@@ -52,14 +45,8 @@ impl CircuitText {
     }
 
     // A device, after the pins: three nets by name.
-    fn read_device(
-        &mut self,
-        heap: Global,
-        text: &[u8],
-        words: &[Word],
-        line: usize,
-    ) -> Result<(), Fault>
-        ensures { Follows (joined line (circuit_of self.old) (spelled text.now words.now)) (circuit_of self.new) result }
+    fn read_device(&mut self, heap: Global, words: &[Word], line: usize) -> Result<(), Fault>
+        ensures { Follows (joined line (circuit_of self.old) (spelled words.now)) (circuit_of self.new) result }
     {
         if self.pins.is_none() {
             return Err(Fault::Refused(Refusal::Text(line)));
@@ -67,9 +54,9 @@ impl CircuitText {
         let [gate, one, other] = words else {
             return Err(Fault::Refused(Refusal::Text(line)));
         };
-        let gate = self.net(heap, gate.bytes(text))?;
-        let one = self.net(heap, one.bytes(text))?;
-        let other = self.net(heap, other.bytes(text))?;
+        let gate = self.net(heap, gate.bytes)?;
+        let one = self.net(heap, one.bytes)?;
+        let other = self.net(heap, other.bytes)?;
         self.devices.extend_from_slice(&[gate, one, other])?;
         Ok(())
     }
@@ -79,18 +66,13 @@ impl CircuitText {
         ensures { Follows (stated line (circuit_of self.old) text.now) (circuit_of self.new) result }
     {
         let words = split(heap, text, Marks::Plain)?;
-        let [keyword, rest @ ..] = words.as_slice() else {
+        let Some((keyword, rest)) = words.split_first() else {
             return Ok(());
         };
-        let keyword = keyword.bytes(text);
-        if same(keyword, b"pins") {
-            self.read_pins(heap, text, rest, line)?;
-            return Ok(());
+        match keyword.bytes {
+            b"pins" => self.read_pins(heap, rest, line),
+            b"device" => self.read_device(heap, rest, line),
+            _ => Err(Fault::Refused(Refusal::Text(line))),
         }
-        if same(keyword, b"device") {
-            self.read_device(heap, text, rest, line)?;
-            return Ok(());
-        }
-        Err(Fault::Refused(Refusal::Text(line)))
     }
 }

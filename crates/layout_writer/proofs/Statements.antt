@@ -1,7 +1,7 @@
 -- The statements that are written are read as what they say. Assumes nothing.
 use Rattle.std.proofs.Common.{◌≡◌, ℕ, ◌+◌, ◌^◌, ◌<◌, ◌≤◌, Bool, true, false, cond, not, ltb, List, [], ◌∷◌, ◌++◌, length, Some, None, Ok, Err, codes, decimal, refl, ap, ◌∙◌, arith}
 use Rattle.std.proofs.lemmas.Bool.{lt-ltb, le-ltb}
-use Rattle.words.specs.Chains.{place_of}
+use Rattle.words.specs.Places.{place_of}
 use Rattle.words.specs.Numbers.{number_in}
 use Rattle.words.specs.Steps.{by_some}
 use Rattle.text.specs.Keywords.{keyword_of, slots, slot_at}

@@ -1,8 +1,8 @@
 -- Regions as they are written, word by word: a layer's number, or two regions with and, or or without, or one with grown and a number, in parentheses. Assumes nothing: these are definitions.
-use Rattle.std.specs.Prelude.{◌≡◌, ℕ, ◌-◌, ◌/◌, Bool, true, false, cond, List, [], ◌∷◌, ◌++◌, length, take, drop, Some, None, vec_items, codes, Option, ◌==◌, slice_index_or}
+use Rattle.std.specs.Prelude.{ℕ, ◌-◌, ◌/◌, Bool, true, false, cond, List, [], ◌∷◌, ◌++◌, map, length, take, Some, None, vec_items, codes, Option, Result, ◌==◌, slice_index_or}
 use Rattle.std.specs.Str.{bytes_eq}
 use Rattle.words.specs.Numbers.{number_in}
-use Rattle.words.specs.Words.{Token}
+use Rattle.words.specs.Words.{Token, token_of}
 use Rattle.words.specs.Steps.{by_some}
 use Rattle.rule_text.specs.Operators.{operator_of, number_of}
 use Rattle.rule_text.specs.declared.operator.Operator.{Operator}
@@ -13,6 +13,8 @@ use Rattle.rule_text.specs.declared.expression.Awaits.{Awaits}
 use Rattle.rule_text.specs.declared.expression.Awaits.TheVariants as awaits
 use Rattle.rule_text.specs.declared.expression.Expression.{Expression}
 use Rattle.rule_text.specs.declared.expression.Region.{Region}
+use Rattle.rule_text.specs.declared.stop.Stop.{Stop}
+use Rattle.rule_text.specs.Faults.{Reads}
 
 -- the nodes so far, operands first; the open parentheses, the innermost last; what the next word has to be
 pub record Reading : Type 0 where
@@ -105,11 +107,12 @@ region_from e (t ∷ ts) = by_some (accept e t.bytes) None (λ z. cond (is_done 
 abbrev pub region_in : List ℕ → List Token → Option Found
 region_in nodes ts = region_from (record { nodes = nodes; frames = []; next = awaits.Operand }) ts
 
-abbrev pub Takes : Option Reading → Reading → Bool → Type 0
-Takes m e true = m ≡ Some e
-Takes m e false = m ≡ None
+-- a word is taken, or can't stand here
+abbrev pub Takes : Option Reading → Reading → Result (Unit {0}) Stop → Type 0
+Takes m e r = Reads m (λ u. e) r
 
--- what is read, among the words of a line
-abbrev pub RegionRead : Option Found → List Token → Option Region → Type 0
-RegionRead m ts None = m ≡ None
-RegionRead m ts (Some r) = m ≡ Some (record { nodes = vec_items r.nodes; rest = drop r.next ts })
+abbrev pub found_of : Region → Found
+found_of r = record { nodes = vec_items r.nodes; rest = map token_of r.rest.now }
+
+abbrev pub RegionRead : Option Found → Result Region Stop → Type 0
+RegionRead m r = Reads m found_of r

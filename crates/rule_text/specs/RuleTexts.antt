@@ -1,14 +1,14 @@
 -- Which rules a text means: one to a line. Assumes nothing: these are definitions.
-use Rattle.std.specs.Prelude.{◌≡◌, ℕ, suc, cond, List, [], ◌∷◌, ◌++◌, map, length, Ok, Err, vec_items, Result, Vec, ◌==◌}
+use Rattle.std.specs.Prelude.{◌≡◌, ℕ, cond, List, [], ◌∷◌, ◌++◌, map, length, Ok, Err, vec_items, Result, Vec, ◌==◌}
 use Rattle.std.specs.declared.alloc.Global.{Global}
 use Rattle.layout.specs.Refusals.{place_of}
 use Rattle.layout.specs.declared.refusal.Fault.{Fault}
 use Rattle.layout.specs.declared.refusal.Fault.TheVariants.{Refused, Memory}
 use Rattle.layout.specs.declared.refusal.Refusal.TheVariants.{Text}
-use Rattle.words.specs.Lines.{lines_of}
+use Rattle.words.specs.Lines.{lines_of, line_by_line}
 use Rattle.words.specs.Words.{words_of}
 use Rattle.words.specs.declared.word.Marks.TheVariants.{Parentheses}
-use Rattle.words.specs.Steps.{by_some, and_then}
+use Rattle.words.specs.Steps.{by_some}
 use Rattle.rule_text.specs.Rules.{Rule, rule_in, rule_of}
 use Rattle.rule_text.specs.declared.rule.RuleText.{RuleText}
 
@@ -18,13 +18,9 @@ lined n rules line =
     cond (length (words_of Parentheses line) == 0) (Ok rules)
     (by_some (rule_in line (words_of Parentheses line) n) (Err n) (λ r. Ok (rules ++ r ∷ [])))
 
-unfoldable pub rules_from : ℕ → List Rule → List (List ℕ) → Result (List Rule) ℕ
-rules_from n rules [] = Ok rules
-rules_from n rules (l ∷ ls) = and_then (lined n rules l) (λ z. rules_from (suc n) z ls)
-
 -- the rules of a text, or the number of the first line that can't be read
 abbrev pub rules_text : List ℕ → Result (List Rule) ℕ
-rules_text text = rules_from 0 [] (lines_of text)
+rules_text text = line_by_line lined 0 [] (lines_of text)
 
 -- an answer follows a model; nothing is said where memory ran out
 abbrev pub Follows : {U : Type 0} → Result (List Rule) ℕ → List Rule → Result U Fault → Type 0

@@ -1,8 +1,8 @@
 -- Rules as they are written, one to a line. Assumes nothing: these are definitions.
-use Rattle.std.specs.Prelude.{◌≡◌, ℕ, ◌-◌, List, [], ◌∷◌, ◌++◌, length, take, drop, Some, None, vec_items, Option}
+use Rattle.std.specs.Prelude.{◌≡◌, ℕ, ◌-◌, List, [], ◌∷◌, ◌++◌, map, length, take, drop, Some, None, vec_items, Option}
 use Rattle.std.specs.List.{between}
 use Rattle.words.specs.Numbers.{number_in}
-use Rattle.words.specs.Words.{Token}
+use Rattle.words.specs.Words.{Token, token_of}
 use Rattle.words.specs.Steps.{by_some}
 use Rattle.rule_text.specs.Operators.{rule_kind_of}
 use Rattle.rule_text.specs.Expressions.{Found, region_in}
@@ -48,9 +48,9 @@ number_after Apart ts = number_first ts
 number_after Inside ts = number_first ts
 number_after Never ts = Some (record { value = 0; rest = ts })
 
-abbrev pub NumberRead : Option Counted → List Token → Option Number → Type 0
-NumberRead m ts None = m ≡ None
-NumberRead m ts (Some n) = m ≡ Some (record { value = n.value; rest = drop n.next ts })
+abbrev pub NumberRead : Option Counted → Option Number → Type 0
+NumberRead m None = m ≡ None
+NumberRead m (Some n) = m ≡ Some (record { value = n.value; rest = map token_of n.rest.now })
 
 -- the message: from the first of the words that are left to the end of the last, with all that stands between them
 unfoldable pub last_end : ℕ → List Token → ℕ
@@ -81,7 +81,3 @@ after_kind text ts line k =
 abbrev pub rule_in : List ℕ → List Token → ℕ → Option Rule
 rule_in text [] line = None
 rule_in text (t ∷ ts) line = by_some (rule_kind_of t.bytes) None (after_kind text ts line)
-
-abbrev pub RuleRead : Option Rule → Option RuleText → Type 0
-RuleRead m None = m ≡ None
-RuleRead m (Some r) = m ≡ Some (rule_of r)

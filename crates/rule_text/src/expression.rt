@@ -1,12 +1,13 @@
 // Regions as they are written, read word by word into nodes of three numbers.
-ghost use Rattle.std.specs.Prelude.{◌≡◌, ◌-◌, ◌/◌, map, drop, IfOk, OnOk};
-ghost use Rattle.words.specs.Words.{token_at};
+ghost use Rattle.std.specs.Prelude.{◌≡◌, map, OnOk};
+ghost use Rattle.words.specs.Words.{token_of};
 ghost use Rattle.rule_text.specs.Expressions.{last_node, after_operand, added, operand, operated, grew, ended, further, accept, is_done, region_in, expression_of, Takes, RegionRead};
 
 use super::operator::{Operator, operator_of};
+use super::stop::Stop;
 use std::alloc::{AllocError, Global};
 use words::number::number;
-use words::word::{Word, same};
+use words::word::Word;
 
 /// An open parenthesis, and what is known of its region.
 #[derive(Clone, Copy)]
@@ -68,153 +69,124 @@ impl Expression {
     }
 
     /// An operand: a layer, or an opening parenthesis.
-    fn operand(&mut self, word: &[u8]) -> Result<bool, AllocError>
-        ensures { IfOk result (λ t. Takes (operand (expression_of self.old) word.now) (expression_of self.new) t) }
+    fn operand(&mut self, word: &[u8]) -> Result<(), Stop>
+        ensures { Takes (operand (expression_of self.old) word.now) (expression_of self.new) result }
     {
-        if same(word, b"(") {
+        if word == b"(".as_slice() {
             self.frames.push(Frame::Open)?;
-            return Ok(true);
+            return Ok(());
         }
         let Some(layer) = number(word) else {
-            return Ok(false);
+            return Err(Stop::Unreadable);
         };
         self.add([0, layer, 0])?;
-        Ok(true)
+        Ok(())
     }
 
     /// How far the region before grows.
-    fn growth(&mut self, word: &[u8]) -> Result<bool, AllocError>
-        ensures { IfOk result (λ t. Takes (grew (expression_of self.old) word.now) (expression_of self.new) t) }
+    fn growth(&mut self, word: &[u8]) -> Result<(), Stop>
+        ensures { Takes (grew (expression_of self.old) word.now) (expression_of self.new) result }
     {
         let Some(by) = number(word) else {
-            return Ok(false);
+            return Err(Stop::Unreadable);
         };
         let of = self.last_node();
         self.frames.push(Frame::Grown { by, of })?;
         self.awaits = Awaits::Further;
-        Ok(true)
+        Ok(())
     }
 
     /// An operator after its left operand, whose parenthesis has been taken off.
-    fn operator(&mut self, word: &[u8]) -> Result<bool, AllocError>
-        ensures { IfOk result (λ t. Takes (operated (expression_of self.old) word.now) (expression_of self.new) t) }
+    fn operator(&mut self, word: &[u8]) -> Result<(), Stop>
+        ensures { Takes (operated (expression_of self.old) word.now) (expression_of self.new) result }
     {
         match operator_of(word) {
-            None => Ok(false),
+            None => Err(Stop::Unreadable),
             Some(Operator::Grown) => {
                 self.awaits = Awaits::Growth;
-                Ok(true)
+                Ok(())
             }
             Some(operator) => {
                 let left = self.last_node();
                 self.frames.push(Frame::Two { operator, left })?;
                 self.awaits = Awaits::Operand;
-                Ok(true)
+                Ok(())
             }
         }
     }
 
     /// The end of a parenthesis that has been taken off: its node.
-    fn end(&mut self, word: &[u8], node: [u64; 3]) -> Result<bool, AllocError>
-        ensures { IfOk result (λ t. Takes (ended (expression_of self.old) word.now node) (expression_of self.new) t) }
+    fn end(&mut self, word: &[u8], node: [u64; 3]) -> Result<(), Stop>
+        ensures { Takes (ended (expression_of self.old) word.now node) (expression_of self.new) result }
     {
-        if !same(word, b")") {
-            return Ok(false);
+        if word != b")".as_slice() {
+            return Err(Stop::Unreadable);
         }
         self.add(node)?;
-        Ok(true)
+        Ok(())
     }
 
     /// What follows an operand inside parentheses.
-    fn further(&mut self, word: &[u8]) -> Result<bool, AllocError>
-        ensures { IfOk result (λ t. Takes (further (expression_of self.old) word.now) (expression_of self.new) t) }
+    fn further(&mut self, word: &[u8]) -> Result<(), Stop>
+        ensures { Takes (further (expression_of self.old) word.now) (expression_of self.new) result }
     {
         match self.frames.pop() {
-            None => Ok(false),
-            Some(Frame::Open) => {
-                let taken = self.operator(word)?;
-                Ok(taken)
-            }
+            None => Err(Stop::Unreadable),
+            Some(Frame::Open) => self.operator(word),
             Some(Frame::Two { operator, left }) => {
                 let right = self.last_node();
-                let taken = self.end(word, [operator.number(), left, right])?;
-                Ok(taken)
+                self.end(word, [operator.number(), left, right])
             }
-            Some(Frame::Grown { by, of }) => {
-                let taken = self.end(word, [4, by, of])?;
-                Ok(taken)
-            }
+            Some(Frame::Grown { by, of }) => self.end(word, [Operator::Grown.number(), by, of]),
         }
     }
 
-    /// Takes one word more, or says that it can't stand here.
-    fn accept(&mut self, word: &[u8]) -> Result<bool, AllocError>
-        ensures { IfOk result (λ t. Takes (accept (expression_of self.old) word.now) (expression_of self.new) t) }
+    /// Takes one word more, unless it can't stand here.
+    fn accept(&mut self, word: &[u8]) -> Result<(), Stop>
+        ensures { Takes (accept (expression_of self.old) word.now) (expression_of self.new) result }
     {
         match self.awaits {
-            Awaits::Operand => {
-                let taken = self.operand(word)?;
-                Ok(taken)
-            }
-            Awaits::Growth => {
-                let taken = self.growth(word)?;
-                Ok(taken)
-            }
-            Awaits::Further => {
-                let taken = self.further(word)?;
-                Ok(taken)
-            }
-            Awaits::Nothing => Ok(false),
+            Awaits::Operand => self.operand(word),
+            Awaits::Growth => self.growth(word),
+            Awaits::Further => self.further(word),
+            Awaits::Nothing => Err(Stop::Unreadable),
         }
     }
 
     fn is_done(&self) -> bool
         ensures { result ≡ is_done (expression_of self.now) }
     {
-        match self.awaits {
-            Awaits::Nothing => true,
-            _ => false,
-        }
+        matches!(self.awaits, Awaits::Nothing)
     }
 }
 
-/// The nodes of a region, and the place of the word after it.
+/// The nodes of a region, and the words after it.
 #[derive(Drop)]
-pub(crate) struct Region {
+pub(crate) struct Region<'w, 'a> {
     pub(crate) nodes: Vec<u64>,
-    pub(crate) next: usize,
+    pub(crate) rest: &'w [Word<'a>],
 }
 
-/// Reads a region from a word on, its nodes after others.
-pub(crate) fn read_region(
+/// Reads the region that words begin with, its nodes after others.
+pub(crate) fn read_region<'w, 'a>(
     heap: Global,
-    text: &[u8],
-    words: &[Word],
-    from: usize,
+    words: &'w [Word<'a>],
     nodes: Vec<u64>,
-) -> Result<Option<Region>, AllocError>
-    ensures { IfOk result (λ o. RegionRead (region_in nodes.items (drop from (map (token_at text.now) words.now))) (map (token_at text.now) words.now) o) }
+) -> Result<Region<'w, 'a>, Stop>
+    ensures { RegionRead (region_in nodes.items (map token_of words.now)) result }
 {
     let mut expression = Expression {
         nodes,
         frames: Vec::new(heap),
         awaits: Awaits::Operand,
     };
-    let mut at = from;
-    while at < words.len() {
-        let taken = expression.accept(words[at].bytes(text))?;
-        if !taken {
-            return Ok(None);
-        }
-        at += 1;
+    for (at, word) in words.iter().enumerate() {
+        expression.accept(word.bytes)?;
         if expression.is_done() {
-            let Expression {
-                nodes,
-                frames: _,
-                awaits: _,
-            } = expression;
-            return Ok(Some(Region { nodes, next: at }));
+            let Expression { nodes, .. } = expression;
+            let (_, rest) = words.split_at(at + 1);
+            return Ok(Region { nodes, rest });
         }
     }
-    Ok(None)
+    Err(Stop::Unreadable)
 }

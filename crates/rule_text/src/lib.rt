@@ -6,5 +6,6 @@ pub mod law;
 pub mod operator;
 pub mod reader;
 pub mod rule;
+pub mod stop;
 
 pub use reader::read_rules;

@@ -2,33 +2,26 @@
 ghost use Rattle.std.specs.Prelude.{◌≡◌};
 ghost use Rattle.rule_text.specs.Operators.{operator_of, number_of, rule_kind_of, rule_number};
 
-use words::word::same;
-
+/// An operator, by the kind of its node.
 #[derive(Clone, Copy)]
 pub(crate) enum Operator {
-    And,
-    Or,
-    Without,
-    Grown,
+    And = 1,
+    Or = 2,
+    Without = 3,
+    Grown = 4,
 }
 
 /// The operator that a word is.
 pub(crate) fn operator_of(word: &[u8]) -> Option<Operator>
     ensures { result ≡ operator_of word.now }
 {
-    if same(word, b"and") {
-        return Some(Operator::And);
+    match word {
+        b"and" => Some(Operator::And),
+        b"or" => Some(Operator::Or),
+        b"without" => Some(Operator::Without),
+        b"grown" => Some(Operator::Grown),
+        _ => None,
     }
-    if same(word, b"or") {
-        return Some(Operator::Or);
-    }
-    if same(word, b"without") {
-        return Some(Operator::Without);
-    }
-    if same(word, b"grown") {
-        return Some(Operator::Grown);
-    }
-    None
 }
 
 impl Operator {
@@ -36,41 +29,30 @@ impl Operator {
     pub(crate) fn number(self) -> u64
         ensures { result ≡ number_of self }
     {
-        match self {
-            Operator::And => 1,
-            Operator::Or => 2,
-            Operator::Without => 3,
-            Operator::Grown => 4,
-        }
+        self as u64
     }
 }
 
-/// What a rule asks of its regions.
+/// What a rule asks of its regions, by the number by which the rule entries know it.
 #[derive(Clone, Copy, Debug, PartialEq)]
 pub enum RuleKind {
-    Wide,
-    Apart,
-    Inside,
-    Never,
+    Wide = 0,
+    Apart = 1,
+    Inside = 2,
+    Never = 3,
 }
 
 /// The rule that a word begins.
 pub(crate) fn rule_kind_of(word: &[u8]) -> Option<RuleKind>
     ensures { result ≡ rule_kind_of word.now }
 {
-    if same(word, b"wide") {
-        return Some(RuleKind::Wide);
+    match word {
+        b"wide" => Some(RuleKind::Wide),
+        b"apart" => Some(RuleKind::Apart),
+        b"inside" => Some(RuleKind::Inside),
+        b"never" => Some(RuleKind::Never),
+        _ => None,
     }
-    if same(word, b"apart") {
-        return Some(RuleKind::Apart);
-    }
-    if same(word, b"inside") {
-        return Some(RuleKind::Inside);
-    }
-    if same(word, b"never") {
-        return Some(RuleKind::Never);
-    }
-    None
 }
 
 impl RuleKind {
@@ -78,11 +60,6 @@ impl RuleKind {
     pub fn number(self) -> u64
         ensures { result ≡ rule_number self }
     {
-        match self {
-            RuleKind::Wide => 0,
-            RuleKind::Apart => 1,
-            RuleKind::Inside => 2,
-            RuleKind::Never => 3,
-        }
+        self as u64
     }
 }

@@ -1,12 +1,14 @@
 // Rules as they are written, one to a line.
-ghost use Rattle.std.specs.Prelude.{◌≡◌, map, drop, IfOk};
-ghost use Rattle.words.specs.Words.{token_at};
+ghost use Rattle.std.specs.Prelude.{◌≡◌, map};
+ghost use Rattle.words.specs.Words.{token_of};
 ghost use Rattle.rule_text.specs.Expressions.{RegionRead};
-ghost use Rattle.rule_text.specs.Rules.{operands, root, inside_in, regions_in, number_first, number_after, message_of, after_kind, rule_in, NumberRead, RuleRead};
+ghost use Rattle.rule_text.specs.Faults.{Reads};
+ghost use Rattle.rule_text.specs.Rules.{operands, root, inside_in, regions_in, number_first, number_after, message_of, after_kind, rule_in, rule_of, NumberRead};
 
 use super::expression::{Region, read_region};
 use super::operator::{RuleKind, rule_kind_of};
-use std::alloc::{AllocError, Global};
+use super::stop::Stop;
+use std::alloc::Global;
 use words::number::number;
 use words::word::Word;
 
@@ -21,117 +23,78 @@ pub struct RuleText {
 }
 
 /// The two regions of an inside rule: the operands of the second come first, and the second itself last.
-fn read_inside(
-    heap: Global,
-    text: &[u8],
-    words: &[Word],
-    from: usize,
-) -> Result<Option<Region>, AllocError>
-    ensures { IfOk result (λ o. RegionRead (inside_in (drop from (map (token_at text.now) words.now))) (map (token_at text.now) words.now) o) }
+fn read_inside<'w, 'a>(heap: Global, words: &'w [Word<'a>]) -> Result<Region<'w, 'a>, Stop>
+    ensures { RegionRead (inside_in (map token_of words.now)) result }
 {
-    let Some(first) = read_region(heap, text, words, from, Vec::new(heap))? else {
-        return Ok(None);
-    };
-    let Some(second) = read_region(heap, text, words, first.next, Vec::new(heap))? else {
-        return Ok(None);
-    };
-    let nodes = operands_of(heap, second.nodes.as_slice())?;
-    let Some(mut both) = read_region(heap, text, words, from, nodes)? else {
-        return Ok(None);
-    };
-    both.nodes
-        .extend_from_slice(root_of(second.nodes.as_slice()))?;
-    both.next = second.next;
-    Ok(Some(both))
+    let first = read_region(heap, words, Vec::new(heap))?;
+    let second = read_region(heap, first.rest, Vec::new(heap))?;
+    let (operands, root) = split_root(second.nodes.as_slice());
+    let mut both = read_region(heap, words, operands.to_vec(heap)?)?;
+    both.nodes.extend_from_slice(root)?;
+    both.rest = second.rest;
+    Ok(both)
 }
 
-/// All nodes but the last.
-fn operands_of(heap: Global, nodes: &[u64]) -> Result<Vec<u64>, AllocError>
-    ensures { IfOk result (λ v. v.items ≡ operands nodes.now) }
+/// All nodes but the last, and the last.
+fn split_root(nodes: &[u64]) -> (&[u64], &[u64])
+    ensures operands { result.0.now ≡ operands nodes.now }
+    ensures root { result.1.now ≡ root nodes.now }
 {
-    let end = nodes.len().saturating_sub(3);
-    let front = nodes[0..end].to_vec(heap)?;
-    Ok(front)
-}
-
-/// The last node.
-fn root_of(nodes: &[u64]) -> &[u64]
-    ensures { result.now ≡ root nodes.now }
-{
-    let end = nodes.len().saturating_sub(3);
-    &nodes[end..]
+    nodes.split_at(nodes.len().saturating_sub(3))
 }
 
 /// The regions of a rule.
-fn read_regions(
+fn read_regions<'w, 'a>(
     heap: Global,
-    text: &[u8],
-    words: &[Word],
+    words: &'w [Word<'a>],
     kind: RuleKind,
-    from: usize,
-) -> Result<Option<Region>, AllocError>
-    ensures { IfOk result (λ o. RegionRead (regions_in kind (drop from (map (token_at text.now) words.now))) (map (token_at text.now) words.now) o) }
+) -> Result<Region<'w, 'a>, Stop>
+    ensures { RegionRead (regions_in kind (map token_of words.now)) result }
 {
     match kind {
-        RuleKind::Inside => {
-            let read = read_inside(heap, text, words, from)?;
-            Ok(read)
-        }
-        _ => {
-            let read = read_region(heap, text, words, from, Vec::new(heap))?;
-            Ok(read)
-        }
+        RuleKind::Inside => read_inside(heap, words),
+        _ => read_region(heap, words, Vec::new(heap)),
     }
 }
 
-/// A number of a rule, and the place of the word after it.
+/// A number of a rule, and the words after it.
 #[derive(Clone, Copy)]
-pub(crate) struct Number {
+pub(crate) struct Number<'w, 'a> {
     pub(crate) value: u64,
-    pub(crate) next: usize,
+    pub(crate) rest: &'w [Word<'a>],
 }
 
 /// The number of a rule: none for a never, which has 0.
-fn read_number(text: &[u8], words: &[Word], kind: RuleKind, from: usize) -> Option<Number>
-    ensures { NumberRead (number_after kind (drop from (map (token_at text.now) words.now))) (map (token_at text.now) words.now) result }
+fn read_number<'w, 'a>(words: &'w [Word<'a>], kind: RuleKind) -> Option<Number<'w, 'a>>
+    ensures { NumberRead (number_after kind (map token_of words.now)) result }
 {
     match kind {
         RuleKind::Never => Some(Number {
             value: 0,
-            next: from,
+            rest: words,
         }),
-        _ => number_at(text, words, from),
+        _ => first_number(words),
     }
 }
 
-fn number_at(text: &[u8], words: &[Word], from: usize) -> Option<Number>
-    ensures { NumberRead (number_first (drop from (map (token_at text.now) words.now))) (map (token_at text.now) words.now) result }
+fn first_number<'w, 'a>(words: &'w [Word<'a>]) -> Option<Number<'w, 'a>>
+    ensures { NumberRead (number_first (map token_of words.now)) result }
 {
-    if from >= words.len() {
-        return None;
-    }
-    match number(words[from].bytes(text)) {
-        Some(value) => Some(Number {
-            value,
-            next: from + 1,
-        }),
-        None => None,
-    }
+    let (first, rest) = words.split_first()?;
+    let value = number(first.bytes)?;
+    Some(Number { value, rest })
 }
 
-/// From the first of the words from a place on to the end of the last: the message.
-fn message_at<'a>(text: &'a [u8], words: &[Word], from: usize) -> &'a [u8]
-    ensures { result.now ≡ message_of text.now (drop from (map (token_at text.now) words.now)) }
+/// From the first of some words to the end of the last: the message.
+fn message_of<'a>(text: &'a [u8], words: &[Word]) -> &'a [u8]
+    ensures { result.now ≡ message_of text.now (map token_of words.now) }
 {
-    if from >= words.len() {
-        return &text[0..0];
-    }
-    let all = Word {
-        start: words[from].start,
-        end: words[words.len() - 1].end,
-        line: 0,
+    let (Some((first, _)), Some((last, _))) = (words.split_first(), words.split_last()) else {
+        return &[];
     };
-    all.bytes(text)
+    let end = last.start.saturating_add(last.bytes.len()).min(text.len());
+    let start = first.start.min(end);
+    &text[start..end]
 }
 
 /// Reads what follows the first word of a rule.
@@ -141,24 +104,21 @@ fn read_after(
     words: &[Word],
     line: usize,
     kind: RuleKind,
-) -> Result<Option<RuleText>, AllocError>
-    ensures { IfOk result (λ o. RuleRead (after_kind text.now (drop 1 (map (token_at text.now) words.now)) line kind) o) }
+) -> Result<RuleText, Stop>
+    ensures { Reads (after_kind text.now (map token_of words.now) line kind) rule_of result }
 {
-    let Some(read) = read_regions(heap, text, words, kind, 1)? else {
-        return Ok(None);
+    let Region { nodes, rest } = read_regions(heap, words, kind)?;
+    let Some(number) = read_number(rest, kind) else {
+        return Err(Stop::Unreadable);
     };
-    let Some(number) = read_number(text, words, kind, read.next) else {
-        return Ok(None);
-    };
-    let message = message_at(text, words, number.next).to_vec(heap)?;
-    let Region { nodes, next: _ } = read;
-    Ok(Some(RuleText {
+    let message = message_of(text, number.rest).to_vec(heap)?;
+    Ok(RuleText {
         kind,
         regions: nodes,
         number: number.value,
         message,
         line,
-    }))
+    })
 }
 
 /// Reads the rule that the words of a line are.
@@ -167,17 +127,14 @@ pub(crate) fn read_rule(
     text: &[u8],
     words: &[Word],
     line: usize,
-) -> Result<Option<RuleText>, AllocError>
-    ensures { IfOk result (λ o. RuleRead (rule_in text.now (map (token_at text.now) words.now) line) o) }
+) -> Result<RuleText, Stop>
+    ensures { Reads (rule_in text.now (map token_of words.now) line) rule_of result }
 {
-    if words.len() == 0 {
-        return Ok(None);
-    }
-    match rule_kind_of(words[0].bytes(text)) {
-        Some(kind) => {
-            let rule = read_after(heap, text, words, line, kind)?;
-            Ok(rule)
-        }
-        None => Ok(None),
+    let Some((first, rest)) = words.split_first() else {
+        return Err(Stop::Unreadable);
+    };
+    match rule_kind_of(first.bytes) {
+        Some(kind) => read_after(heap, text, rest, line, kind),
+        None => Err(Stop::Unreadable),
     }
 }

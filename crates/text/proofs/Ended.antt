@@ -2,7 +2,7 @@
 use Rattle.std.proofs.Common.{◌≡◌, ℕ, ◌+◌, ◌<◌, ◌≤◌, Bool, true, cond, ltb, List, [], ◌∷◌, ◌++◌, length, get_or, Some, None, Ok, Err, Option, Result, sym, refl, ap, ◌∙◌, subst, inl, inr, arith}
 use Rattle.std.proofs.lemmas.List.{length_push, get_or_push, get_or_append_left}
 use Rattle.std.proofs.lemmas.Bool.{cases_Bool, cases_eq, ltb-true, ltb-false}
-use Rattle.words.specs.Chains.{place_of}
+use Rattle.words.specs.Places.{place_of}
 use Rattle.words.specs.Lines.{last_line}
 use Rattle.words.specs.Words.{Token, words_of}
 use Rattle.words.specs.declared.word.Marks.TheVariants.{Braces}

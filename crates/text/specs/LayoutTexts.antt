@@ -4,7 +4,7 @@ use Rattle.layout.specs.Refusals.{place_of}
 use Rattle.layout.specs.declared.refusal.Fault.{Fault}
 use Rattle.layout.specs.declared.refusal.Fault.TheVariants.{Refused, Memory}
 use Rattle.layout.specs.declared.refusal.Refusal.TheVariants.{Text}
-use Rattle.words.specs.Chains.{place_of as place-among}
+use Rattle.words.specs.Places.{place_of as place-among}
 use Rattle.words.specs.Names.{names_of}
 use Rattle.words.specs.Steps.{by_some, and_then}
 use Rattle.text.specs.Readings.{State, said_in}

@@ -9,7 +9,7 @@ use Rattle.words.specs.Lines.{last_line}
 use Rattle.words.specs.Words.{Token, words_of}
 use Rattle.words.specs.declared.word.Marks.TheVariants.{Braces}
 use Rattle.words.specs.Names.{names_of}
-use Rattle.words.specs.Chains.{place_of as place-among}
+use Rattle.words.specs.Places.{place_of as place-among}
 use Rattle.words.specs.Numbers.{number_in}
 use Rattle.words.specs.Steps.{by_some, and_then}
 use Rattle.text.specs.Keywords.{keyword_of, slots, slot_at, turns, statement_of}

@@ -3,7 +3,6 @@ ghost use Rattle.std.specs.Prelude.{◌≡◌, slice_index};
 ghost use Rattle.text.specs.Keywords.{keyword_of, slots, slot_at, turns, statement_of};
 
 use super::statement::Statement;
-use words::word::same;
 
 #[derive(Clone, Copy)]
 pub enum Keyword {
@@ -37,34 +36,18 @@ pub enum Slot {
 pub(crate) fn keyword_of(word: &[u8]) -> Option<Keyword>
     ensures { result ≡ keyword_of word.now }
 {
-    if same(word, b"box") {
-        return Some(Keyword::Box);
+    match word {
+        b"box" => Some(Keyword::Box),
+        b"cell" => Some(Keyword::Cell),
+        b"}" => Some(Keyword::Close),
+        b"put" => Some(Keyword::Put),
+        b"turned" => Some(Keyword::Turned),
+        b"mirrored" => Some(Keyword::Mirrored),
+        b"row" => Some(Keyword::Row),
+        b"column" => Some(Keyword::Column),
+        b"pin" => Some(Keyword::Pin),
+        _ => None,
     }
-    if same(word, b"cell") {
-        return Some(Keyword::Cell);
-    }
-    if same(word, b"}") {
-        return Some(Keyword::Close);
-    }
-    if same(word, b"put") {
-        return Some(Keyword::Put);
-    }
-    if same(word, b"turned") {
-        return Some(Keyword::Turned);
-    }
-    if same(word, b"mirrored") {
-        return Some(Keyword::Mirrored);
-    }
-    if same(word, b"row") {
-        return Some(Keyword::Row);
-    }
-    if same(word, b"column") {
-        return Some(Keyword::Column);
-    }
-    if same(word, b"pin") {
-        return Some(Keyword::Pin);
-    }
-    None
 }
 
 impl Keyword {
@@ -90,28 +73,19 @@ impl Keyword {
             Keyword::Pin => &[Slot::NewPin, Slot::Number, Slot::Number, Slot::Number],
         }
     }
+
     /// What the word after so many others has to be.
     pub(crate) fn slot(self, given: usize) -> Option<Slot>
         ensures { result ≡ slot_at (slots self) given }
     {
-        let slots = self.slots();
-        if given < slots.len() {
-            Some(slots[given])
-        } else {
-            None
-        }
+        self.slots().get(given).copied()
     }
 
     /// Whether turns may follow the statement.
     pub(crate) fn turns(self) -> bool
         ensures { result ≡ turns self }
     {
-        match self {
-            Keyword::Put => true,
-            Keyword::Turned => true,
-            Keyword::Mirrored => true,
-            _ => false,
-        }
+        matches!(self, Keyword::Put | Keyword::Turned | Keyword::Mirrored)
     }
 
     /// What the statement says, once all its words have their values.
@@ -162,5 +136,5 @@ impl Keyword {
 pub(crate) fn value_at(values: &[u64], i: usize) -> u64
     ensures { result ≡ slice_index values.now i }
 {
-    if i < values.len() { values[i] } else { 0 }
+    values.get(i).copied().unwrap_or(0)
 }

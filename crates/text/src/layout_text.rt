@@ -24,10 +24,7 @@ impl LayoutText {
     pub fn pin(&self, name: &[u8]) -> Option<Pin>
         ensures { result ≡ pin_named (meaning_of self.now) name.now }
     {
-        match self.names.find(name) {
-            Some(k) => self.pins.get(k).copied(),
-            None => None,
-        }
+        self.pins.get(self.names.find(name)?).copied()
     }
 }
 
@@ -38,25 +35,8 @@ pub fn read_layout(heap: Global, text: &[u8]) -> Result<LayoutText, Fault>
 {
     let reader = read_statements(heap, text)?;
     let plan = draw_all(heap, reader.said.as_slice())?;
-    let Reader {
-        said: _,
-        cells: _,
-        pins: names,
-        closed: _,
-        turning: _,
-        begun: _,
-        line: _,
-        values: _,
-    } = reader;
-    let Plan {
-        sheet,
-        cells: _,
-        outer: _,
-        inner: _,
-        within: _,
-        put: _,
-        pins,
-    } = plan;
+    let Reader { pins: names, .. } = reader;
+    let Plan { sheet, pins, .. } = plan;
     let Sheet { nodes, lines } = sheet;
     Ok(LayoutText {
         nodes,

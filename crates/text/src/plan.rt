@@ -62,15 +62,10 @@ impl Plan {
         ensures { OnOk result (plan_of self.new ≡ placed (plan_of self.old) node) }
     {
         match self.within {
-            Some(_) => {
-                self.inner.push(node)?;
-                Ok(())
-            }
-            None => {
-                self.outer.push(node)?;
-                Ok(())
-            }
+            Some(_) => self.inner.push(node)?,
+            None => self.outer.push(node)?,
         }
+        Ok(())
     }
 
     /// Adds the node of a statement.

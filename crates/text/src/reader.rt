@@ -1,8 +1,7 @@
 // Reads the words of a layout text, one after another, into statements.
-ghost use Rattle.std.specs.Prelude.{◌≡◌, map, IfOk, if◌then◌else◌, Some, None, OnOk};
-ghost use Rattle.std.specs.Str.{bytes_eq};
+ghost use Rattle.std.specs.Prelude.{◌≡◌, map, OnOk};
 ghost use Rattle.words.specs.Names.{names_of};
-ghost use Rattle.words.specs.Words.{token_at};
+ghost use Rattle.words.specs.Words.{token_of};
 ghost use Rattle.text.specs.Readings.{start, inside, may_begin, new_name, value_of, closed_by, settled, begin, noted, go_on, accept, read, said_in, state_of, Follows, Read};
 
 use super::keyword::{Keyword, Slot, keyword_of};
@@ -12,7 +11,7 @@ use std::alloc::{AllocError, Global};
 use words::line::last_line;
 use words::name::Names;
 use words::number::number;
-use words::word::{Marks, Word, same, split};
+use words::word::{Marks, Word, split};
 
 /// What has been read so far: the statements, the names, and the statement that has begun.
 #[derive(Drop)]
@@ -31,21 +30,19 @@ pub(crate) struct Reader {
 }
 
 impl Reader {
-    fn new(heap: Global) -> Result<Reader, AllocError>
-        ensures { IfOk result (λ v. state_of v ≡ start) }
+    fn new(heap: Global) -> Reader
+        ensures { state_of result ≡ start }
     {
-        let cells = Names::new(heap)?;
-        let pins = Names::new(heap)?;
-        Ok(Reader {
+        Reader {
             said: Vec::new(heap),
-            cells,
-            pins,
+            cells: Names::new(heap),
+            pins: Names::new(heap),
             closed: 0,
             turning: false,
             begun: None,
             line: 0,
             values: Vec::new(heap),
-        })
+        }
     }
 
     /// Whether the words are inside a cell.
@@ -60,15 +57,10 @@ impl Reader {
         ensures { result ≡ may_begin (state_of self.now) keyword }
     {
         match keyword {
-            Keyword::Cell => !self.inside(),
-            Keyword::Pin => !self.inside(),
+            Keyword::Cell | Keyword::Pin => !self.inside(),
             Keyword::Close => self.inside(),
-            Keyword::Turned => self.turning,
-            Keyword::Mirrored => self.turning,
-            Keyword::Box => true,
-            Keyword::Put => true,
-            Keyword::Row => true,
-            Keyword::Column => true,
+            Keyword::Turned | Keyword::Mirrored => self.turning,
+            Keyword::Box | Keyword::Put | Keyword::Row | Keyword::Column => true,
         }
     }
 
@@ -81,8 +73,8 @@ impl Reader {
             Slot::Cell => self.ended_cell(word),
             Slot::NewCell => new_name(&self.cells, word),
             Slot::NewPin => new_name(&self.pins, word),
-            Slot::At => if_same(word, b"at"),
-            Slot::Open => if_same(word, b"{"),
+            Slot::At => (word == b"at".as_slice()).then_some(0),
+            Slot::Open => (word == b"{".as_slice()).then_some(0),
         }
     }
 
@@ -90,15 +82,11 @@ impl Reader {
     fn ended_cell(&self, word: &[u8]) -> Option<u64>
         ensures { result ≡ value_of (state_of self.now) Slot.Cell word.now }
     {
-        match self.cells.find(word) {
-            Some(k) => {
-                if k < self.closed {
-                    Some(k as u64)
-                } else {
-                    None
-                }
-            }
-            None => None,
+        let k = self.cells.find(word)?;
+        if k < self.closed {
+            Some(k as u64)
+        } else {
+            None
         }
     }
 
@@ -107,7 +95,7 @@ impl Reader {
         ensures { result ≡ closed_by (state_of self.now) keyword }
     {
         match keyword {
-            Keyword::Close if self.closed < self.cells.len() => self.closed + 1,
+            Keyword::Close if self.inside() => self.closed + 1,
             _ => self.closed,
         }
     }
@@ -150,14 +138,8 @@ impl Reader {
         ensures { OnOk result (state_of self.new ≡ noted (state_of self.old) slot word.now) }
     {
         match slot {
-            Slot::NewCell => {
-                self.cells.add(heap, word)?;
-                Ok(())
-            }
-            Slot::NewPin => {
-                self.pins.add(heap, word)?;
-                Ok(())
-            }
+            Slot::NewCell => self.cells.add(heap, word),
+            Slot::NewPin => self.pins.add(heap, word),
             _ => Ok(()),
         }
     }
@@ -189,25 +171,19 @@ impl Reader {
         ensures { Follows (accept (state_of self.old) word.now line) (state_of self.new) result }
     {
         match self.begun {
-            None => {
-                self.begin(word, line)?;
-                Ok(())
-            }
-            Some(keyword) => {
-                self.go_on(heap, keyword, word, line)?;
-                Ok(())
-            }
+            None => self.begin(word, line),
+            Some(keyword) => self.go_on(heap, keyword, word, line),
         }
     }
 }
 
 /// Reads words that a text was cut into.
-fn read(heap: Global, text: &[u8], words: &[Word]) -> Result<Reader, Fault>
-    ensures { Read (read start (map (token_at text.now) words.now)) result }
+fn read(heap: Global, words: &[Word]) -> Result<Reader, Fault>
+    ensures { Read (read start (map token_of words.now)) result }
 {
-    let mut reader = Reader::new(heap)?;
-    for w in words {
-        reader.accept(heap, w.bytes(text), w.line)?;
+    let mut reader = Reader::new(heap);
+    for word in words {
+        reader.accept(heap, word.bytes, word.line)?;
     }
     Ok(reader)
 }
@@ -217,7 +193,7 @@ pub(crate) fn read_statements(heap: Global, text: &[u8]) -> Result<Reader, Fault
     ensures { Read (said_in text.now) result }
 {
     let words = split(heap, text, Marks::Braces)?;
-    let reader = read(heap, text, words.as_slice())?;
+    let reader = read(heap, words.as_slice())?;
     if reader.begun.is_some() | reader.inside() {
         return Err(Fault::Refused(Refusal::Text(last_line(text))));
     }
@@ -228,18 +204,11 @@ pub(crate) fn read_statements(heap: Global, text: &[u8]) -> Result<Reader, Fault
 fn new_name(names: &Names, word: &[u8]) -> Option<u64>
     ensures { result ≡ new_name (names_of names.now) word.now }
 {
-    if same(word, b"{") | same(word, b"}") {
-        return None;
+    match word {
+        b"{" | b"}" => None,
+        _ => match names.find(word) {
+            Some(_) => None,
+            None => Some(0),
+        },
     }
-    match names.find(word) {
-        Some(_) => None,
-        None => Some(0),
-    }
-}
-
-/// 0 for the word that is wanted.
-fn if_same(word: &[u8], wanted: &[u8]) -> Option<u64>
-    ensures { result ≡ (if bytes_eq word.now wanted.now then Some 0 else None) }
-{
-    if same(word, wanted) { Some(0) } else { None }
 }

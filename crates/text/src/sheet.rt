@@ -27,13 +27,12 @@ impl Sheet {
     pub(crate) fn join(&mut self, parts: &[u64], line: Option<usize>) -> Result<u64, AllocError>
         ensures { IfOk result (λ n. joined (sheet_of self.old) parts.now line ≡ record { sheet = sheet_of self.new; node = n }) }
     {
-        if parts.is_empty() {
-            let node = self.add([0, 0, 0, 0, 0, 0], line)?;
-            return Ok(node);
-        }
-        let mut node = parts[0];
-        for i in 1..parts.len() {
-            node = self.add([2, node, parts[i], 0, 0, 0], line)?;
+        let Some((first, others)) = parts.split_first() else {
+            return self.add([0, 0, 0, 0, 0, 0], line);
+        };
+        let mut node = *first;
+        for part in others {
+            node = self.add([2, node, *part, 0, 0, 0], line)?;
         }
         Ok(node)
     }

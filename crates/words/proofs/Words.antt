@@ -1,52 +1,15 @@
 -- Runs of letters and comments in a text, and its words. Assumes nothing.
-use Rattle.std.proofs.Common.{◌≡◌, ℕ, suc, ◌+◌, ◌-◌, ◌<◌, ◌≤◌, min, true, false, cond, eqb, List, [], ◌∷◌, ◌++◌, map, length, get_or, take, drop, sym, refl, ap, ◌∙◌, inl, inr, arith}
-use Rattle.std.proofs.lemmas.List.{at_drop_more, at_drop_all, append_assoc, append-nil, drop-drop, map_push, drop_more, length-drop, length-take, take_all, drop_all}
-use Rattle.std.proofs.lemmas.Slice.{between_is}
-use Rattle.std.proofs.lemmas.Bool.{eq-eqb, ne_eqb, cases_Bool, cases_lt, false≢true}
+use Rattle.std.proofs.Common.{◌≡◌, ℕ, suc, ◌+◌, ◌-◌, ◌<◌, ◌≤◌, true, false, not, cond, eqb, List, [], ◌∷◌, ◌++◌, map, length, take, drop, sym, refl, ap, ◌∙◌, subst, inl, inr, arith}
+use Rattle.std.proofs.lemmas.List.{append_assoc, append-nil, drop-drop, map_push, length-drop, length-take}
+use Rattle.std.proofs.lemmas.List.Sums.{take_while-cons}
+use Rattle.std.proofs.lemmas.Bool.{cases_Bool, false≢true}
 use Rattle.std.proofs.ByRecursion.{All-push}
-use Rattle.std.specs.List.{between, AllByRecursion}
+use Rattle.std.specs.List.{between, AllByRecursion, take_while}
 use Rattle.words.specs.declared.word.Word.{Word}
 use Rattle.words.specs.declared.word.Marks.{Marks}
 use Rattle.words.specs.declared.word.Kind.{Kind}
 use Rattle.words.specs.declared.word.Kind.TheVariants.{Newline, Blank, Comment, Mark, Letter}
-use Rattle.words.specs.Words.{Token, kind_of, is_letter, letters, rest_of_line, ended, by_kind, words_from, words_of, token_at, Inside, Cut}
-
-pub no_letter : (k : Kind) → (k ≡ Letter → ⊥) → is_letter k ≡ false
-no_letter Newline h = refl
-no_letter Blank h = refl
-no_letter Comment h = refl
-no_letter Mark h = refl
-no_letter Letter h = absurd (h refl)
-
-module _ (m : Marks) (text : List ℕ) (at : ℕ) where
-  pub letter-more : at < length text → Letter ≡ kind_of m (get_or text at 0) → length (letters m (drop at text)) ≡ suc (length (letters m (drop (at + 1) text)))
-  unfolding letters
-  letter-more h e =
-      at_drop_more (λ bs. length (letters m bs)) text at 0 h
-      ∙ ap (λ t. length (cond t (get_or text at 0 ∷ letters m (drop (at + 1) text)) [])) (sym (ap is_letter e))
-
-  pub letter-stop : (k : Kind) → at < length text → k ≡ kind_of m (get_or text at 0) → (k ≡ Letter → ⊥) → length (letters m (drop at text)) ≡ 0
-  unfolding letters
-  letter-stop k h e n =
-      at_drop_more (λ bs. length (letters m bs)) text at 0 h
-      ∙ ap (λ t. length (cond t (get_or text at 0 ∷ letters m (drop (at + 1) text)) [])) (sym (ap is_letter e) ∙ no_letter k n)
-
-  pub letter-none : length text ≤ at → length (letters m (drop at text)) ≡ 0
-  unfolding letters
-  letter-none h = at_drop_all (λ bs. length (letters m bs)) text at h
-
-module _ (text : List ℕ) (at : ℕ) where
-  pub line-more : at < length text → (get_or text at 0 ≡ 10 → ⊥) → length (rest_of_line (drop at text)) ≡ suc (length (rest_of_line (drop (at + 1) text)))
-  unfolding rest_of_line
-  line-more h e = at_drop_more (λ bs. length (rest_of_line bs)) text at 0 h ∙ rw (ne_eqb (get_or text at 0) 10 e)
-
-  pub line-stop : at < length text → get_or text at 0 ≡ 10 → length (rest_of_line (drop at text)) ≡ 0
-  unfolding rest_of_line
-  line-stop h e = at_drop_more (λ bs. length (rest_of_line bs)) text at 0 h ∙ rw (eq-eqb (get_or text at 0) 10 e)
-
-  pub line-none : length text ≤ at → length (rest_of_line (drop at text)) ≡ 0
-  unfolding rest_of_line
-  line-none h = at_drop_all (λ bs. length (rest_of_line bs)) text at h
+use Rattle.words.specs.Words.{Token, kind_of, is_letter, letters, rest_of_line, ended, by_kind, words_from, words_of, token_of, Inside, Cut}
 
 letter_is : (k : Kind) → is_letter k ≡ true → k ≡ Letter
 letter_is Newline e = absurd (false≢true e)
@@ -160,6 +123,20 @@ module _ (m : Marks) where
         rw e (comment-ended n (p + 1) bs ∙ ap (λ q. words_from m n q false [] (drop (length (rest_of_line bs)) bs)) z)
   ]
 
+-- the same in std's words
+pub letters-taken : (m : Marks) (bs : List ℕ) → take_while (λ b. is_letter (kind_of m b)) bs ≡ letters m bs
+unfolding letters
+letters-taken m [] = refl
+letters-taken m (b ∷ bs) = take_while-cons (λ b. is_letter (kind_of m b)) b bs ∙ ap (λ us. cond (is_letter (kind_of m b)) (b ∷ us) []) (letters-taken m bs)
+
+pub line_taken : (bs : List ℕ) → take_while (λ b. not (eqb b 10)) bs ≡ rest_of_line bs
+unfolding rest_of_line
+line_taken [] = refl
+line_taken (b ∷ bs) = take_while-cons (λ b. not (eqb b 10)) b bs ∙ elim (cases_Bool (eqb b 10)) [
+  | inl e ↦ rw e
+  | inr e ↦ rw e (ap (λ us. b ∷ us) (line_taken bs))
+]
+
 rest-long : (bs : List ℕ) → length (rest_of_line bs) ≤ length bs
 unfolding rest_of_line
 rest-long [] = omega arith
@@ -172,129 +149,119 @@ ended_some : (n p : ℕ) (bs : List ℕ) → 1 ≤ length bs → ended n p bs �
 ended_some n p [] h = absurd (omega arith)
 ended_some n p (b ∷ bs) h = refl
 
--- a loop that cuts a text into words: those so far, and those of what is left
-pub record Cutting (m : Marks) (text : List ℕ) (ws : List Word) (line at : ℕ) : Type 0 where
-  pub here : at ≤ length text
+-- a loop that cuts a text into words: those so far, and those of what is left from a place on
+pub record Cutting (m : Marks) (text : List ℕ) (ws : List Word) (line at : ℕ) (rest : List ℕ) : Type 0 where
+  pub here : at + length rest ≡ length text
+  pub suffix : rest ≡ drop at text
   pub lines : line ≤ at
   pub inside : AllByRecursion (Inside text) ws
-  pub same : map (token_at text) ws ++ words_from m line at false [] (drop at text) ≡ words_of m text
+  pub same : map token_of ws ++ words_from m line at false [] rest ≡ words_of m text
 
 module _ (m : Marks) (text : List ℕ) where
-  pub cut-none : Cutting m text [] 0 0
-  cut-none = record { here = omega arith; lines = omega arith; inside = tt; same = refl }
+  pub cut-none : Cutting m text [] 0 (length text - length text) text
+  cut-none =
+      let z : ◌≡◌ {A = ℕ} 0 (length text - length text) = omega arith in
+      subst (λ (at : ℕ). Cutting m text [] 0 at text) z (record { here = omega arith; suffix = refl; lines = omega arith; inside = tt; same = refl })
 
-  pub cut_all : (ws : List Word) (line at : ℕ) → Cutting m text ws line at → length text ≤ at → Cut m text ws
+  pub cut_all : (ws : List Word) (line at : ℕ) (rest : List ℕ) → Cutting m text ws line at rest → length rest ≡ 0 → Cut m text ws
   unfolding words_from
-  cut_all ws line at c h = record {
-    inside = c.inside;
-    same = sym (append-nil (map (token_at text) ws)) ∙ ap (λ ts. map (token_at text) ws ++ ts) (sym (at_drop_all (words_from m line at false []) text at h)) ∙ c.same;
-  }
+  cut_all ws line at [] c h = record { inside = c.inside; same = sym (append-nil (map token_of ws)) ∙ c.same }
+  cut_all ws line at (b ∷ bs) c h = absurd (omega arith)
 
-module _ (m : Marks) (text : List ℕ) (ws : List Word) (line at : ℕ) (c : Cutting m text ws line at) (more : at < length text) where
-  left_is : drop at text ≡ get_or text at 0 ∷ drop (at + 1) text
-  left_is = drop_more text at 0 more
+module _ (m : Marks) (text : List ℕ) (ws : List Word) (line at : ℕ) (rest : List ℕ) (c : Cutting m text ws line at rest) where
+  -- some bytes on
+  moved : (k line' : ℕ) → k ≤ length rest → line' ≤ at + k → words_from m line at false [] rest ≡ words_from m line' (at + k) false [] (drop k rest) → Cutting m text ws line' (length text - length (drop k rest)) (drop k rest)
+  moved k line' h l e =
+      let z : at + k ≡ length text - length (drop k rest) = omega (arith, c.here, length-drop k rest) in
+      subst (λ (p : ℕ). Cutting m text ws line' p (drop k rest)) z (record {
+        here = omega (arith, c.here, length-drop k rest);
+        suffix = ap (drop k) c.suffix ∙ drop-drop k at text;
+        lines = l;
+        inside = c.inside;
+        same = ap (λ ts. map token_of ws ++ ts) (sym e) ∙ c.same;
+      })
 
-  onto : (line' at' : ℕ) → words_from m line at false [] (drop at text) ≡ words_from m line' at' false [] (drop at' text) → map (token_at text) ws ++ words_from m line' at' false [] (drop at' text) ≡ words_of m text
-  onto line' at' e = ap (λ ts. map (token_at text) ws ++ ts) (sym e) ∙ c.same
-
-  pub cut-newline : Newline ≡ kind_of m (get_or text at 0) → Cutting m text ws (line + 1) (at + 1)
-  cut-newline e = record {
-    here = omega arith;
-    lines = omega (arith, c.lines);
-    inside = c.inside;
-    same =
-        let z : suc line ≡ line + 1 = omega arith in
-        onto (line + 1) (at + 1) (ap (words_from m line at false []) left_is ∙ at-newline m line at (get_or text at 0) (drop (at + 1) text) (sym e) ∙ ap (λ n. words_from m n (at + 1) false [] (drop (at + 1) text)) z);
-  }
-
-  pub cut-blank : Blank ≡ kind_of m (get_or text at 0) → Cutting m text ws line (at + 1)
-  cut-blank e = record {
-    here = omega arith;
-    lines = omega (arith, c.lines);
-    inside = c.inside;
-    same = onto line (at + 1) (ap (words_from m line at false []) left_is ∙ at-blank m line at (get_or text at 0) (drop (at + 1) text) (sym e));
-  }
-
-  comment-long : Comment ≡ kind_of m (get_or text at 0) → length (rest_of_line (drop at text)) ≡ suc (length (rest_of_line (drop (at + 1) text)))
-  comment-long e = line-more text at more (λ t. let k : kind_of m (get_or text at 0) ≡ Newline = rw t in let z : ◌≡◌ {A = ℕ} 0 1 = cc in omega arith)
-
-  pub comment-moves : Comment ≡ kind_of m (get_or text at 0) → (end : ℕ) → end ≡ at + length (rest_of_line (drop at text)) → at < end
-  comment-moves e end h = omega (arith, comment-long e)
-
-  pub cut-comment : Comment ≡ kind_of m (get_or text at 0) → (end : ℕ) → end ≡ at + length (rest_of_line (drop at text)) → Cutting m text ws line end
-  cut-comment e end h = record {
-    here = omega (arith, rest-long (drop at text), length-drop at text);
-    lines = omega (arith, c.lines);
-    inside = c.inside;
-    same =
-        let r = length (rest_of_line (drop (at + 1) text)) in
-        let z : at + 1 + r ≡ end = omega (arith, comment-long e) in
-        onto line end (
-        ap (words_from m line at false []) left_is ∙ at-comment m line at (get_or text at 0) (drop (at + 1) text) (sym e)
-        ∙ comment-ended m line (at + 1) (drop (at + 1) text)
-        ∙ ap (words_from m line (at + 1 + r) false []) (drop-drop r (at + 1) text) ∙ ap (λ q. words_from m line q false [] (drop q text)) z
+  -- a word of some bytes
+  cut_off : (k : ℕ) (w : Word) → k ≤ length rest → w.bytes.now ≡ take k rest → w.start ≡ at → w.line ≡ line → words_from m line at false [] rest ≡ record { line = line; from = at; to = at + k; bytes = take k rest } ∷ words_from m line (at + k) false [] (drop k rest) → Cutting m text (ws ++ w ∷ []) line (length text - length (drop k rest)) (drop k rest)
+  cut_off k w h spelled starts lined e =
+      let z : at + k ≡ length text - length (drop k rest) = omega (arith, c.here, length-drop k rest) in
+      let long : length (take k rest) ≡ k = omega (arith, length-take k rest) in
+      let count : length w.bytes.now ≡ k = ap length spelled ∙ long in
+      let back : at + k - at ≡ k = omega arith in
+      let token : token_of w ≡ record { line = line; from = at; to = at + k; bytes = take k rest } =
+      ap (λ n. record { line = n; from = w.start; to = w.start + length w.bytes.now; bytes = w.bytes.now }) lined
+      ∙ ap (λ p. record { line = line; from = p; to = p + length w.bytes.now; bytes = w.bytes.now }) starts
+      ∙ ap (λ n. record { line = line; from = at; to = at + n; bytes = w.bytes.now }) count
+      ∙ ap (λ us. record { line = line; from = at; to = at + k; bytes = us }) spelled
+      in
+      subst (λ (p : ℕ). Cutting m text (ws ++ w ∷ []) line p (drop k rest)) z (record {
+        here = omega (arith, c.here, length-drop k rest);
+        suffix = ap (drop k) c.suffix ∙ drop-drop k at text;
+        lines = omega (arith, c.lines);
+        inside = All-push (Inside text) ws w c.inside (
+          omega (arith, c.here),
+          spelled ∙ ap (take k) c.suffix ∙ ap (λ n. take n (drop at text)) (sym back) ∙ ap (λ n. between at (at + n) text) (sym count) ∙ ap (λ p. between p (p + length w.bytes.now) text) (sym starts),
         );
-  }
+        same =
+            ap (λ ts. ts ++ words_from m line (at + k) false [] (drop k rest)) (map_push token_of ws w)
+            ∙ append_assoc (map token_of ws) (token_of w ∷ []) (words_from m line (at + k) false [] (drop k rest))
+            ∙ ap (λ u. map token_of ws ++ (u ∷ words_from m line (at + k) false [] (drop k rest))) token
+            ∙ ap (λ ts. map token_of ws ++ ts) (sym e) ∙ c.same;
+      })
 
-  pushed-on : (w : Word) (at' : ℕ) → words_from m line at false [] (drop at text) ≡ token_at text w ∷ words_from m line at' false [] (drop at' text) → map (token_at text) (ws ++ w ∷ []) ++ words_from m line at' false [] (drop at' text) ≡ words_of m text
-  pushed-on w at' e =
-      ap (λ ts. ts ++ words_from m line at' false [] (drop at' text)) (map_push (token_at text) ws w)
-      ∙ append_assoc (map (token_at text) ws) (token_at text w ∷ []) (words_from m line at' false [] (drop at' text))
-      ∙ ap (λ ts. map (token_at text) ws ++ ts) (sym e) ∙ c.same
+-- what a byte does, by its kind
+module _ (m : Marks) (text : List ℕ) (ws : List Word) (line at : ℕ) (rest : List ℕ) (c : Cutting m text ws line at rest) (b : ℕ) (bs : List ℕ) (is : rest ≡ b ∷ bs) where
+  here : Cutting m text ws line at (b ∷ bs)
+  here = subst (Cutting m text ws line at) is c
 
-  pub cut-mark : Mark ≡ kind_of m (get_or text at 0) → Cutting m text (ws ++ record { start = at; end = at + 1; line = line } ∷ []) line (at + 1)
-  cut-mark e = record {
-    here = omega arith;
-    lines = omega (arith, c.lines);
-    inside = All-push (Inside text) ws _ c.inside (omega arith, omega arith);
-    same =
-        let step : at + 1 - at ≡ 1 = omega arith in
-        let one : take (at + 1 - at) (drop at text) ≡ get_or text at 0 ∷ [] = ap (λ k. take k (drop at text)) step ∙ ap (take 1) left_is in
-        let rest : List ℕ → List Token = λ bs. record { line = line; from = at; to = at + 1; bytes = bs } ∷ words_from m line (at + 1) false [] (drop (at + 1) text) in
-        pushed-on _ (at + 1) (ap (words_from m line at false []) left_is ∙ at_mark m line at (get_or text at 0) (drop (at + 1) text) (sym e) ∙ ap rest (sym one));
-  }
+  pub cut-newline : Newline ≡ kind_of m b → Cutting m text ws (line + 1) (length text - length bs) bs
+  cut-newline e =
+      let z : suc line ≡ line + 1 = omega arith in
+      moved m text ws line at (b ∷ bs) here 1 (line + 1) (omega arith) (omega (arith, c.lines)) (at-newline m line at b bs (sym e) ∙ ap (λ n. words_from m n (at + 1) false [] bs) z)
 
-  letters-long : Letter ≡ kind_of m (get_or text at 0) → length (letters m (drop at text)) ≡ suc (length (letters m (drop (at + 1) text)))
-  letters-long e = letter-more m text at more e
+  pub cut-blank : Blank ≡ kind_of m b → Cutting m text ws line (length text - length bs) bs
+  cut-blank e = moved m text ws line at (b ∷ bs) here 1 line (omega arith) (omega (arith, c.lines)) (at-blank m line at b bs (sym e))
 
-  pub letters-move : Letter ≡ kind_of m (get_or text at 0) → (end : ℕ) → end ≡ at + length (letters m (drop at text)) → at < end
-  letters-move e end h = omega (arith, letters-long e)
+  -- a comment has a byte at least
+  comment-long : Comment ≡ kind_of m b → length (take_while (λ b. not (eqb b 10)) rest) ≡ suc (length (rest_of_line bs))
+  unfolding rest_of_line
+  comment-long e = ap (λ us. length (take_while (λ b. not (eqb b 10)) us)) is ∙ ap length (line_taken (b ∷ bs)) ∙ elim (cases_Bool (eqb b 10)) [
+    | inl t ↦ let k : kind_of m b ≡ Newline = rw t in let z : Comment ≡ Newline = e ∙ k in let y : ◌≡◌ {A = ℕ} 0 1 = cc in absurd (omega arith)
+    | inr t ↦ rw t
+  ]
 
-  pub cut-letters : Letter ≡ kind_of m (get_or text at 0) → (end : ℕ) → end ≡ at + length (letters m (drop at text)) → Cutting m text (ws ++ record { start = at; end = end; line = line } ∷ []) line end
-  cut-letters e end h = record {
-    here = omega (arith, letters-short m (drop at text), length-drop at text);
-    lines = omega (arith, c.lines);
-    inside = All-push (Inside text) ws _ c.inside (omega arith, omega (arith, letters-short m (drop at text), length-drop at text));
-    same =
-        let ls = letters m (drop at text) in
-        let long : end - at ≡ length ls = omega arith in
-        let bytes : take (end - at) (drop at text) ≡ ls = ap (λ k. take k (drop at text)) long ∙ letters-take m (drop at text) in
-        let at-to : ℕ → List Token = λ q. record { line = line; from = at; to = q; bytes = ls } ∷ words_from m line q false [] (drop q text) in
-        let rest : List ℕ → List Token = λ bs. record { line = line; from = at; to = end; bytes = bs } ∷ words_from m line end false [] (drop end text) in
-        pushed-on _ end (
-        word-begun m line at [] (drop at text)
-        ∙ word-ended m line at ls (drop (length ls) (drop at text)) (letters-done m (drop at text))
-        ∙ ap (λ ts. ts ++ words_from m line (at + length ls) false [] (drop (length ls) (drop at text))) (ended_some line at ls (omega (arith, letters-long e)))
-        ∙ ap (λ bs. record { line = line; from = at; to = at + length ls; bytes = ls } ∷ words_from m line (at + length ls) false [] bs) (drop-drop (length ls) at text)
-        ∙ ap at-to (sym h)
-        ∙ ap rest (sym bytes)
-        );
-  }
+  pub comment-moves : Comment ≡ kind_of m b → (k : ℕ) → k ≡ length (take_while (λ b. not (eqb b 10)) rest) → (0 < k) × (k ≤ length rest)
+  comment-moves e k h = (omega (arith, comment-long e), omega (arith, comment-long e, rest-long bs, ap length is))
 
--- a part whose ends are drawn into the text
-take-clipped : (xs : List ℕ) (n : ℕ) → take (min n (length xs)) xs ≡ take n xs
-take-clipped xs n = elim (cases_lt n (length xs)) [
-  | inl h ↦ ap (λ k. take k xs) (omega arith)
-  | inr h ↦ take_all (min n (length xs)) xs (omega arith) ∙ sym (take_all n xs h)
-]
+  pub cut-comment : Comment ≡ kind_of m b → (k : ℕ) → k ≡ length (take_while (λ b. not (eqb b 10)) rest) → (left : List ℕ) → left ≡ drop k rest → Cutting m text ws line (length text - length left) left
+  cut-comment e k h left l =
+      let n = length (rest_of_line bs) in
+      let z : at + 1 + n ≡ at + suc n = omega arith in
+      subst (λ (us : List ℕ). Cutting m text ws line (length text - length us) us) (sym (l ∙ ap (drop k) is ∙ ap (λ j. drop j (b ∷ bs)) (h ∙ comment-long e)))
+      (moved m text ws line at (b ∷ bs) here (suc n) line (omega (arith, rest-long bs)) (omega (arith, c.lines))
+      (at-comment m line at b bs (sym e) ∙ comment-ended m line (at + 1) bs ∙ ap (λ q. words_from m line q false [] (drop n bs)) z))
 
-drop-clipped : (xs : List ℕ) (n : ℕ) → drop (min n (length xs)) xs ≡ drop n xs
-drop-clipped xs n = elim (cases_lt n (length xs)) [
-  | inl h ↦ ap (λ k. drop k xs) (omega arith)
-  | inr h ↦ drop_all (min n (length xs)) xs (omega arith) ∙ sym (drop_all n xs h)
-]
+  module _ (w : Word) (front left : List ℕ) (spelled : w.bytes.now ≡ front) (starts : w.start ≡ at) (lined : w.line ≡ line) where
+    pub cut-mark : Mark ≡ kind_of m b → front ≡ take 1 rest → left ≡ drop 1 rest → Cutting m text (ws ++ w ∷ []) line (length text - length left) left
+    cut-mark e f l =
+        subst (λ (us : List ℕ). Cutting m text (ws ++ w ∷ []) line (length text - length us) us) (sym (l ∙ ap (drop 1) is))
+        (cut_off m text ws line at (b ∷ bs) here 1 w (omega arith) (spelled ∙ f ∙ ap (take 1) is) starts lined (at_mark m line at b bs (sym e)))
 
-pub between-clipped : (xs : List ℕ) (s e s' e' : ℕ) → e' ≡ min e (length xs) → s' ≡ min s e' → between s' e' xs ≡ between s e xs
-between-clipped xs s e s' e' p q =
-    let long : s' ≡ min s (length (take e xs)) = omega (arith, length-take e xs) in
-    between_is xs s' e' ∙ ap (λ k. drop s' (take k xs)) p ∙ ap (drop s') (take-clipped xs e) ∙ ap (λ k. drop k (take e xs)) long ∙ drop-clipped (take e xs) s ∙ sym (between_is xs s e)
+    pub cut-letters : Letter ≡ kind_of m b → (k : ℕ) → k ≡ length (take_while (λ b. is_letter (kind_of m b)) rest) → front ≡ take k rest → left ≡ drop k rest → Cutting m text (ws ++ w ∷ []) line (length text - length left) left
+    cut-letters e k h f l =
+        let ls = letters m (b ∷ bs) in
+        let long : k ≡ length ls = h ∙ ap length (letters-taken m rest) ∙ ap (λ us. length (letters m us)) is in
+        let some : 1 ≤ length ls = omega (arith, ap length (letters-yes m b bs (sym (ap is_letter e)))) in
+        let cut : words_from m line at false [] (b ∷ bs) ≡ record { line = line; from = at; to = at + length ls; bytes = take (length ls) (b ∷ bs) } ∷ words_from m line (at + length ls) false [] (drop (length ls) (b ∷ bs)) =
+        word-begun m line at [] (b ∷ bs)
+        ∙ word-ended m line at ls (drop (length ls) (b ∷ bs)) (letters-done m (b ∷ bs))
+        ∙ ap (λ ts. ts ++ words_from m line (at + length ls) false [] (drop (length ls) (b ∷ bs))) (ended_some line at ls some)
+        ∙ ap (λ us. record { line = line; from = at; to = at + length ls; bytes = us } ∷ words_from m line (at + length ls) false [] (drop (length ls) (b ∷ bs))) (sym (letters-take m (b ∷ bs)))
+        in
+        subst (λ (us : List ℕ). Cutting m text (ws ++ w ∷ []) line (length text - length us) us) (sym (l ∙ ap (drop k) is ∙ ap (λ j. drop j (b ∷ bs)) long))
+        (cut_off m text ws line at (b ∷ bs) here (length ls) w (letters-short m (b ∷ bs)) (spelled ∙ f ∙ ap (take k) is ∙ ap (λ j. take j (b ∷ bs)) long) starts lined cut)
+
+  pub letters-move : Letter ≡ kind_of m b → (k : ℕ) → k ≡ length (take_while (λ b. is_letter (kind_of m b)) rest) → (0 < k) × (k ≤ length rest)
+  letters-move e k h =
+      let long : k ≡ length (letters m (b ∷ bs)) = h ∙ ap length (letters-taken m rest) ∙ ap (λ us. length (letters m us)) is in
+      (omega (arith, long, ap length (letters-yes m b bs (sym (ap is_letter e)))), omega (arith, long, letters-short m (b ∷ bs), ap length is))

@@ -1,7 +1,8 @@
 -- The definitions that the contracts cite.
 pub mod Words
 pub mod Lines
+pub mod LinesLeft
 pub mod Numbers
-pub mod Chains
+pub mod Places
 pub mod Names
 pub mod Steps

@@ -68,13 +68,13 @@ abbrev pub words_of : Marks → List ℕ → List Token
 words_of m bs = words_from m 0 0 false [] bs
 
 -- a word by its place in the text
-abbrev pub token_at : List ℕ → Word → Token
-token_at text w = record { line = w.line; from = w.start; to = w.end; bytes = between w.start w.end text }
+abbrev pub token_of : Word → Token
+token_of w = record { line = w.line; from = w.start; to = w.start + length w.bytes.now; bytes = w.bytes.now }
 
 abbrev pub Inside : List ℕ → Word → Type 0
-Inside text w = (w.start ≤ w.end) × (w.end ≤ length text)
+Inside text w = (w.start + length w.bytes.now ≤ length text) × (w.bytes.now ≡ between w.start (w.start + length w.bytes.now) text)
 
 -- the words lie in the text, and are its words
 pub record Cut (m : Marks) (text : List ℕ) (ws : List Word) : Type 0 where
   pub inside : AllByRecursion (Inside text) ws
-  pub same : map (token_at text) ws ≡ words_of m text
+  pub same : map token_of ws ≡ words_of m text

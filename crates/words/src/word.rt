@@ -1,35 +1,17 @@
 // A text cut into words.
-ghost use Rattle.std.specs.Prelude.{◌≡◌, ◌+◌, ◌<◌, ◌≤◌, length, drop, IfOk};
-ghost use Rattle.std.specs.List.{between};
-ghost use Rattle.std.specs.Str.{bytes_eq};
-ghost use Rattle.words.specs.Words.{is_mark, kind_of, letters, rest_of_line, Cut};
+ghost use Rattle.std.specs.Prelude.{◌≡◌, length, IfOk};
+ghost use Rattle.std.specs.List.{take_while};
+ghost use Rattle.words.specs.Words.{is_mark, is_letter, kind_of, Cut};
 
+use crate::line::line_length;
 use std::alloc::{AllocError, Global};
 
-/// A word: the bytes from `start` to before `end`, on a line counted from 0.
+/// A word: its bytes, the place of the first of them in the text, and its line, counted from 0.
 #[derive(Clone, Copy, Debug, PartialEq)]
-pub struct Word {
+pub struct Word<'a> {
+    pub bytes: &'a [u8],
     pub start: usize,
-    pub end: usize,
     pub line: usize,
-}
-
-impl Word {
-    /// The bytes of the word, in the text that it was cut from.
-    pub fn bytes(self, text: &[u8]) -> &[u8]
-        ensures { result.now ≡ between self.start self.end text.now }
-    {
-        let end = self.end.min(text.len());
-        let start = self.start.min(end);
-        &text[start..end]
-    }
-}
-
-/// Whether two words are spelled alike.
-pub fn same(a: &[u8], b: &[u8]) -> bool
-    ensures { result ≡ bytes_eq a.now b.now }
-{
-    a == b
 }
 
 /// Which bytes are words of their own, with or without blanks around them.
@@ -48,6 +30,17 @@ pub(crate) enum Kind {
     Comment,
     Mark,
     Letter,
+}
+
+impl Kind {
+    fn is_letter(self) -> bool
+        ensures { result ≡ is_letter self }
+    {
+        match self {
+            Kind::Letter => true,
+            _ => false,
+        }
+    }
 }
 
 fn marked(marks: Marks, byte: u8) -> bool
@@ -78,67 +71,43 @@ fn kind_of(marks: Marks, byte: u8) -> Kind
     Kind::Letter
 }
 
-/// Where the letters that stand from a place on end.
-fn letters_end(text: &[u8], marks: Marks, from: usize) -> usize
-    requires { from ≤ length text.now }
-    ensures { result ≡ from + length (letters marks (drop from text.now)) }
+/// How many letters a text begins with.
+fn letters_count(text: &[u8], marks: Marks) -> usize
+    ensures { result ≡ length (take_while (λ b. is_letter (kind_of marks b)) text.now) }
 {
-    let mut at = from;
-    while at < text.len() {
-        match kind_of(marks, text[at]) {
-            Kind::Letter => at += 1,
-            _ => return at,
-        }
-    }
-    at
-}
-
-/// Where the line of a place ends: at its newline, or at the text's end.
-pub fn line_end(text: &[u8], from: usize) -> usize
-    ensures { result ≡ from + length (rest_of_line (drop from text.now)) }
-{
-    let mut at = from;
-    while at < text.len() {
-        if text[at] == b'\n' {
-            return at;
-        }
-        at += 1;
-    }
-    at
+    text.iter()
+        .take_while(|byte| kind_of(marks, **byte).is_letter())
+        .count()
 }
 
 /// The words of a text, in their order.
-pub fn split(heap: Global, text: &[u8], marks: Marks) -> Result<Vec<Word>, AllocError>
+pub fn split<'a>(heap: Global, text: &'a [u8], marks: Marks) -> Result<Vec<Word<'a>>, AllocError>
     ensures { IfOk result (λ v. Cut marks text.now v.items) }
 {
     let mut words = Vec::new(heap);
     let mut line = 0;
-    let mut at = 0;
-    while at < text.len() {
-        match kind_of(marks, text[at]) {
+    let mut rest = text;
+    while let Some((byte, after)) = rest.split_first() {
+        let start = text.len() - rest.len();
+        match kind_of(marks, *byte) {
             Kind::Newline => {
                 line += 1;
-                at += 1;
+                rest = after;
             }
-            Kind::Blank => at += 1,
-            Kind::Comment => at = line_end(text, at),
+            Kind::Blank => rest = after,
+            Kind::Comment => {
+                let (_, after) = rest.split_at(line_length(rest));
+                rest = after;
+            }
             Kind::Mark => {
-                let end = at + 1;
-                words.push(Word {
-                    start: at,
-                    end,
-                    line,
-                })?;
-                at = end;
+                let (bytes, after) = rest.split_at(1);
+                words.push(Word { bytes, start, line })?;
+                rest = after;
             }
             Kind::Letter => {
-                let end = letters_end(text, marks, at);
-                words.push(Word {
-                    start: at,
-                    end,
-                    line,
-                })?;
-                at = end;
+                let (bytes, after) = rest.split_at(letters_count(rest, marks));
+                words.push(Word { bytes, start, line })?;
+                rest = after;
             }
         }
     }

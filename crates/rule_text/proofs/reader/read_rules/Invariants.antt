@@ -1,11 +1,10 @@
--- What `read_rules` keeps true as it goes round, and why it ends.
-use Rattle.std.proofs.Common.{◌-◌, map, length, vec_items}
+-- What `read_rules` keeps true as it goes round.
+use Rattle.std.proofs.Common.{[], map, vec_items}
+use Rattle.words.specs.LinesLeft.{lines_left}
+use Rattle.words.proofs.Listings.{Listing}
 use Rattle.rule_text.specs.Rules.{rule_of}
-use Rattle.rule_text.proofs.RuleTexts.{Listing}
+use Rattle.rule_text.specs.RuleTexts.{lined}
 use Rattle.rule_text.proofs.reader.read_rules.Given as goal
 
-abbrev pub invariant-loop-rules : goal.invariant-loop-rules
-invariant-loop-rules l = Listing l.text l.at l.line (map rule_of (vec_items l.rules))
-
-abbrev pub decreases-loop-rules : goal.decreases-loop-rules
-decreases-loop-rules l = length l.text - l.at
+abbrev pub invariant-loop-line : goal.invariant-loop-line
+invariant-loop-line l = Listing lined [] l.text (lines_left l.line-iterator.iter) l.line-iterator.count (map rule_of (vec_items l.rules))

@@ -7,6 +7,6 @@ use Rattle.circuit_text.proofs.circuit.CircuitText.read_pins.Given as goal
 
 abbrev pub invariant-loop-word : goal.invariant-loop-word
 invariant-loop-word l =
-    (new_names l.line (names_of l.self.names) (spelled l.text (drop l.word-index l.words)) ≡ new_names l.line (names_of l.initial.self.names) (spelled l.text l.words))
+    (new_names l.line (names_of l.self.names) (spelled (drop l.word-index l.words)) ≡ new_names l.line (names_of l.initial.self.names) (spelled l.words))
     × (l.self.pins ≡ l.initial.self.pins)
     × (vec_items l.self.devices ≡ vec_items l.initial.self.devices)
