@@ -108,14 +108,12 @@ module _ (xs : List ℕ) (sound : Sound xs) where
     record Stand (ps : List Layout) : Type 0 where
       said : List Said
       turning : Bool
-      line : ℕ
-      values : List ℕ
       row : ℕ
       quiet : AllByRecursion Quiet said
       shows : put_down (all_shown empty said) ≡ grown b cs i ps
 
     abbrev state : (ps : List Layout) → Stand ps → State
-    state ps s = stands s.said c k s.turning s.line s.values
+    state ps s = stands s.said c k s.turning
 
     -- bytes that add parts
     record Grows (bytes : List ℕ) (ps : List Layout) (s : Stand ps) (d : Drawing) : Type 0 where
@@ -130,14 +128,14 @@ module _ (xs : List ℕ) (sound : Sound xs) where
     grows_none : (ps : List Layout) (s : Stand ps) → Grows [] ps s (drawing nothing)
     grows_none ps s =
         let e = append-nil ps in
-        let z : Stand (ps ++ []) = record { said = s.said; turning = s.turning; line = s.line; values = s.values; row = s.row; quiet = s.quiet; shows = s.shows ∙ ap (grown b cs i) (sym e) } in
+        let z : Stand (ps ++ []) = record { said = s.said; turning = s.turning; row = s.row; quiet = s.quiet; shows = s.shows ∙ ap (grown b cs i) (sym e) } in
         record { more = []; after = z; turns = turns-none (state ps s) s.row; draws = spread_none }
 
     grows_then : (x y : List ℕ) (ps : List Layout) (s : Stand ps) (p q : Layout) (h : Grows x ps s (drawing p)) → Grows y (ps ++ h.more) h.after (drawing q) → Grows (x ++ y) ps s (drawing (both p q))
     grows_then x y ps s p q h w =
         let t = w.after in
         let e = append_assoc ps h.more w.more in
-        let z : Stand (ps ++ (h.more ++ w.more)) = record { said = t.said; turning = t.turning; line = t.line; values = t.values; row = t.row; quiet = t.quiet; shows = t.shows ∙ ap (grown b cs i) e } in
+        let z : Stand (ps ++ (h.more ++ w.more)) = record { said = t.said; turning = t.turning; row = t.row; quiet = t.quiet; shows = t.shows ∙ ap (grown b cs i) e } in
         record {
           more = h.more ++ w.more;
           after = z;
@@ -146,16 +144,16 @@ module _ (xs : List ℕ) (sound : Sound xs) where
         }
 
     -- a statement on a line
-    grows-line : (ps : List Layout) (s : Stand ps) (ws : List (List ℕ)) (d : List Said) (t : Bool) (v : List ℕ) (q : Layout) → Says s.row (state ps s) ws (stands d c k t s.row v) → AllByRecursion Quiet d → put_down (all_shown empty d) ≡ grown b cs i (ps ++ q ∷ []) → Grows (g ++ line_of ws) ps s (drawing q)
-    grows-line ps s ws d t v q says quiet shows =
-        let z : Stand (ps ++ q ∷ []) = record { said = d; turning = t; line = s.row; values = v; row = suc s.row; quiet = quiet; shows = shows } in
+    grows-line : (ps : List Layout) (s : Stand ps) (ws : List (List ℕ)) (d : List Said) (t : Bool) (q : Layout) → Says s.row (state ps s) ws (stands d c k t) → AllByRecursion Quiet d → put_down (all_shown empty d) ≡ grown b cs i (ps ++ q ∷ []) → Grows (g ++ line_of ws) ps s (drawing q)
+    grows-line ps s ws d t q says quiet shows =
+        let z : Stand (ps ++ q ∷ []) = record { said = d; turning = t; row = suc s.row; quiet = quiet; shows = shows } in
         record { more = q ∷ []; after = z; turns = margin.past (line_of ws) (state ps s) (state (ps ++ q ∷ []) z) s.row (suc s.row) (line-turns says); draws = spread_one q }
 
     grows-put : (ps : List Layout) (s : Stand ps) (m j x y : ℕ) (w1 w2 : List ℕ) → Named c k m j → Number w1 x → Number w2 y → Grows (g ++ line_of (put_words m w1 w2)) ps s (drawing (moved x y (get_or cs j nothing)))
     grows-put ps s m j x y w1 w2 h p q =
         let st = statement.Put j x y in
-        grows-line ps s (put_words m w1 w2) (s.said ++ at s.row st ∷ []) true (j ∷ 0 ∷ x ∷ y ∷ []) (moved x y (get_or cs j nothing))
-        (put-says s.row s.said c k s.turning s.line s.values m j w1 w2 x y h p q)
+        grows-line ps s (put_words m w1 w2) (s.said ++ at s.row st ∷ []) true (moved x y (get_or cs j nothing))
+        (put-says s.row s.said c k s.turning m j w1 w2 x y h p q)
         (All-push Quiet s.said (at s.row st) s.quiet tt)
         (ap put_down (after_one s.said s.row st (grown b cs i ps) s.shows (λ v. refl)) ∙ put-grown cs i ps b j x y)
 
@@ -190,8 +188,8 @@ module _ (xs : List ℕ) (sound : Sound xs) where
         unfolding node_of
         tells-1 q o ps s =
             let st = statement.Box A B C E F in
-            grows-line ps s (box_words A B C E F) (s.said ++ at s.row st ∷ []) false (A ∷ B ∷ C ∷ E ∷ F ∷ []) (box A B C E F)
-            (box-says s.row s.said c k s.turning s.line s.values (decimal A) (decimal B) (decimal C) (decimal E) (decimal F) A B C E F (a_number A (small (6 * n + 1))) (a_number B (small (6 * n + 2))) (a_number C (small (6 * n + 3))) (a_number E (small (6 * n + 4))) (a_number F (small (6 * n + 5))))
+            grows-line ps s (box_words A B C E F) (s.said ++ at s.row st ∷ []) false (box A B C E F)
+            (box-says s.row s.said c k s.turning (decimal A) (decimal B) (decimal C) (decimal E) (decimal F) A B C E F (a_number A (small (6 * n + 1))) (a_number B (small (6 * n + 2))) (a_number C (small (6 * n + 3))) (a_number E (small (6 * n + 4))) (a_number F (small (6 * n + 5))))
             (All-push Quiet s.said (at s.row st) s.quiet tt)
             (ap put_down (after_one s.said s.row st (grown b cs i ps) s.shows (λ v. refl)) ∙ box-grown cs i ps b A B C E F)
 
@@ -218,8 +216,8 @@ module _ (xs : List ℕ) (sound : Sound xs) where
             let ws = put_here B ++ codes "turned" ∷ decimal A ∷ [] in
             let p = get_or cs j nothing in
             grows_same (g ++ line_of ws) ps s (drawing (moved 0 0 (turned A p))) (drawing (turned A (piece xs B))) (put_same (turned A p) ∙ turned_same A p (piece xs B) kn.same)
-            (grows-line ps s ws (d ++ at s.row (statement.Turned A) ∷ []) true (A ∷ []) (moved 0 0 (turned A p))
-            (also (put-says s.row s.said c k s.turning s.line s.values B j (codes "0") (codes "0") 0 0 kn.named zero_number zero_number) (turned-says s.row d c k s.row (j ∷ 0 ∷ 0 ∷ 0 ∷ []) (decimal A) A (a_number A (small (6 * n + 1)))))
+            (grows-line ps s ws (d ++ at s.row (statement.Turned A) ∷ []) true (moved 0 0 (turned A p))
+            (also (put-says s.row s.said c k s.turning B j (codes "0") (codes "0") 0 0 kn.named zero_number zero_number) (turned-says s.row d c k (decimal A) A (a_number A (small (6 * n + 1)))))
             (All-push Quiet d (at s.row (statement.Turned A)) (All-push Quiet s.said (at s.row (statement.Put j 0 0)) s.quiet tt) tt)
             (ap put_down (after_turn d s.row (statement.Turned A) (turned A) (begins (grown b cs i ps) (statement.Put j 0 0)) (after_one s.said s.row (statement.Put j 0 0) (grown b cs i ps) s.shows (λ v. refl)) (λ v. refl)) ∙ changed-grown cs i ps b j (turned A)))
 
@@ -232,8 +230,8 @@ module _ (xs : List ℕ) (sound : Sound xs) where
             let ws = put_here B ++ codes "mirrored" ∷ decimal A ∷ [] in
             let p = get_or cs j nothing in
             grows_same (g ++ line_of ws) ps s (drawing (moved 0 0 (mirrored A p))) (drawing (mirrored A (piece xs B))) (put_same (mirrored A p) ∙ mirrored-same A p (piece xs B) kn.same)
-            (grows-line ps s ws (d ++ at s.row (statement.Mirrored A) ∷ []) true (A ∷ []) (moved 0 0 (mirrored A p))
-            (also (put-says s.row s.said c k s.turning s.line s.values B j (codes "0") (codes "0") 0 0 kn.named zero_number zero_number) (mirrored-says s.row d c k s.row (j ∷ 0 ∷ 0 ∷ 0 ∷ []) (decimal A) A (a_number A (small (6 * n + 1)))))
+            (grows-line ps s ws (d ++ at s.row (statement.Mirrored A) ∷ []) true (moved 0 0 (mirrored A p))
+            (also (put-says s.row s.said c k s.turning B j (codes "0") (codes "0") 0 0 kn.named zero_number zero_number) (mirrored-says s.row d c k (decimal A) A (a_number A (small (6 * n + 1)))))
             (All-push Quiet d (at s.row (statement.Mirrored A)) (All-push Quiet s.said (at s.row (statement.Put j 0 0)) s.quiet tt) tt)
             (ap put_down (after_turn d s.row (statement.Mirrored A) (mirrored A) (begins (grown b cs i ps) (statement.Put j 0 0)) (after_one s.said s.row (statement.Put j 0 0) (grown b cs i ps) s.shows (λ v. refl)) (λ v. refl)) ∙ changed-grown cs i ps b j (mirrored A)))
 
@@ -246,8 +244,8 @@ module _ (xs : List ℕ) (sound : Sound xs) where
             let ws = codes "row" ∷ decimal A ∷ decimal B ∷ name C ∷ [] in
             let p = get_or cs j nothing in
             grows_same (g ++ line_of ws) ps s (drawing (row A B p)) (drawing (row A B (piece xs C))) (row_same A B p (piece xs C) kn.same)
-            (grows-line ps s ws (s.said ++ at s.row st ∷ []) false (A ∷ B ∷ j ∷ []) (row A B p)
-            (row-says s.row s.said c k s.turning s.line s.values (decimal A) (decimal B) A B C j (a_number A (small (6 * n + 1))) (a_number B (small (6 * n + 2))) kn.named)
+            (grows-line ps s ws (s.said ++ at s.row st ∷ []) false (row A B p)
+            (row-says s.row s.said c k s.turning (decimal A) (decimal B) A B C j (a_number A (small (6 * n + 1))) (a_number B (small (6 * n + 2))) kn.named)
             (All-push Quiet s.said (at s.row st) s.quiet tt)
             (ap put_down (after_one s.said s.row st (grown b cs i ps) s.shows (λ v. refl)) ∙ row-grown cs i ps b A B j))
 
@@ -260,8 +258,8 @@ module _ (xs : List ℕ) (sound : Sound xs) where
             let ws = codes "column" ∷ decimal A ∷ decimal B ∷ name C ∷ [] in
             let p = get_or cs j nothing in
             grows_same (g ++ line_of ws) ps s (drawing (column A B p)) (drawing (column A B (piece xs C))) (column-same A B p (piece xs C) kn.same)
-            (grows-line ps s ws (s.said ++ at s.row st ∷ []) false (A ∷ B ∷ j ∷ []) (column A B p)
-            (column-says s.row s.said c k s.turning s.line s.values (decimal A) (decimal B) A B C j (a_number A (small (6 * n + 1))) (a_number B (small (6 * n + 2))) kn.named)
+            (grows-line ps s ws (s.said ++ at s.row st ∷ []) false (column A B p)
+            (column-says s.row s.said c k s.turning (decimal A) (decimal B) A B C j (a_number A (small (6 * n + 1))) (a_number B (small (6 * n + 2))) kn.named)
             (All-push Quiet s.said (at s.row st) s.quiet tt)
             (ap put_down (after_one s.said s.row st (grown b cs i ps) s.shows (λ v. refl)) ∙ column-grown cs i ps b A B j))
 
@@ -293,14 +291,12 @@ module _ (xs : List ℕ) (sound : Sound xs) where
   record Come (n : ℕ) : Type 0 where
     said : List Said
     turning : Bool
-    line : ℕ
-    values : List ℕ
     row : ℕ
     names : List (List ℕ)
     count : ℕ
     cells : List Layout
     inner : List Layout
-    turns : Turns (cells_text xs n) start (stands said names count turning line values) 0 row
+    turns : Turns (cells_text xs n) start (stands said names count turning) 0 row
     shows : put_down (all_shown empty said) ≡ grown false cells inner []
     quiet : AllByRecursion Quiet said
     names-long : length names ≡ count
@@ -313,8 +309,6 @@ module _ (xs : List ℕ) (sound : Sound xs) where
   come-none = record {
     said = [];
     turning = false;
-    line = 0;
-    values = [];
     row = 0;
     names = [];
     count = 0;
@@ -335,14 +329,12 @@ module _ (xs : List ℕ) (sound : Sound xs) where
   come-on n e c = record {
     said = c.said;
     turning = c.turning;
-    line = c.line;
-    values = c.values;
     row = c.row;
     names = c.names;
     count = c.count;
     cells = c.cells;
     inner = c.inner;
-    turns = subst (λ (t : List ℕ). Turns t start (stands c.said c.names c.count c.turning c.line c.values) 0 c.row) (sym (ap (λ d. cells_text xs n ++ cond d (cell_text xs n) []) e ∙ append-nil (cells_text xs n))) c.turns;
+    turns = subst (λ (t : List ℕ). Turns t start (stands c.said c.names c.count c.turning) 0 c.row) (sym (ap (λ d. cells_text xs n ++ cond d (cell_text xs n) []) e ∙ append-nil (cells_text xs n))) c.turns;
     shows = c.shows;
     quiet = c.quiet;
     names-long = c.names-long;
@@ -365,8 +357,8 @@ module _ (xs : List ℕ) (sound : Sound xs) where
     abbrev d1 : List Said
     d1 = c.said ++ at c.row statement.Cell ∷ []
 
-    opened : Turns (line_of (open_words n)) (stands c.said c.names c.count c.turning c.line c.values) (stands d1 ns c.count false c.row (0 ∷ 0 ∷ [])) c.row (suc c.row)
-    opened = line-turns (open-says c.row c.said c.names c.count c.turning c.line c.values n (omega (arith, c.names-long)) (whole-name n (omega (arith, few))) (c.unused n (omega arith) few))
+    opened : Turns (line_of (open_words n)) (stands c.said c.names c.count c.turning) (stands d1 ns c.count false) c.row (suc c.row)
+    opened = line-turns (open-says c.row c.said c.names c.count c.turning n (omega (arith, c.names-long)) (whole-name n (omega (arith, few))) (c.unused n (omega arith) few))
 
     known-inside : (m : ℕ) → m < n → has_cell xs m ≡ true → Known xs ns c.count c.cells m
     known-inside m h e =
@@ -378,8 +370,6 @@ module _ (xs : List ℕ) (sound : Sound xs) where
     inside = record {
       said = d1;
       turning = false;
-      line = c.row;
-      values = 0 ∷ 0 ∷ [];
       row = suc c.row;
       quiet = All-push Quiet c.said (at c.row statement.Cell) c.quiet tt;
       shows = ap put_down (after_one c.said c.row statement.Cell (grown false c.cells c.inner []) c.shows (λ v. refl));
@@ -397,12 +387,12 @@ module _ (xs : List ℕ) (sound : Sound xs) where
         let p = together w.more in
         let d2 = t.said ++ at t.row statement.Close ∷ [] in
         let k = c.count in
-        let s0 = stands c.said c.names k c.turning c.line c.values in
-        let s1 = stands d1 ns k false c.row (0 ∷ 0 ∷ []) in
-        let s2 = stands t.said ns k t.turning t.line t.values in
-        let s3 = stands d2 ns (k + 1) false t.row [] in
+        let s0 = stands c.said c.names k c.turning in
+        let s1 = stands d1 ns k false in
+        let s2 = stands t.said ns k t.turning in
+        let s3 = stands d2 ns (k + 1) false in
         let long = length_push c.names (name n) in
-        let ends : Turns (line_of (codes "}" ∷ [])) s2 s3 t.row (suc t.row) = line-turns (close-says t.row t.said ns k t.turning t.line t.values (omega (arith, c.names-long))) in
+        let ends : Turns (line_of (codes "}" ∷ [])) s2 s3 t.row (suc t.row) = line-turns (close-says t.row t.said ns k t.turning (omega (arith, c.names-long))) in
         let st = statements xs (codes "    ") (suc n) n in
         let rest = turns_then st (line_of (codes "}" ∷ [])) s1 s2 s3 (suc c.row) t.row (suc t.row) w.turns ends in
         let all = turns_then (line_of (open_words n)) (st ++ line_of (codes "}" ∷ [])) s0 s1 s3 c.row (suc c.row) (suc t.row) opened rest in
@@ -410,8 +400,6 @@ module _ (xs : List ℕ) (sound : Sound xs) where
         record {
           said = d2;
           turning = false;
-          line = t.row;
-          values = [];
           row = suc t.row;
           names = ns;
           count = k + 1;
@@ -450,7 +438,7 @@ module _ (xs : List ℕ) (sound : Sound xs) where
   come = comes (sixes xs) (omega arith)
 
   outside : Stand [] no_margin false come.names come.count come.cells come.inner []
-  outside = record { said = come.said; turning = come.turning; line = come.line; values = come.values; row = come.row; quiet = come.quiet; shows = come.shows }
+  outside = record { said = come.said; turning = come.turning; row = come.row; quiet = come.quiet; shows = come.shows }
 
   top : Grows [] no_margin false come.names come.count come.cells come.inner (statements xs [] (sixes xs) (sixes xs - 1)) [] outside (drawing (piece xs (sixes xs - 1)))
   top =
@@ -458,12 +446,12 @@ module _ (xs : List ℕ) (sound : Sound xs) where
       spoken [] no_margin false come.names come.count come.cells come.inner (sixes xs) (omega arith) come.known (sixes xs) (sixes xs - 1) (omega arith) (omega arith) (omega arith) [] outside
 
   ended : State
-  ended = stands top.after.said come.names come.count top.after.turning top.after.line top.after.values
+  ended = stands top.after.said come.names come.count top.after.turning
 
   all-turns : Turns (layout_text xs) start ended 0 top.after.row
   unfolding ended outside
   all-turns =
-      turns_then (cells_text xs (sixes xs)) (statements xs [] (sixes xs) (sixes xs - 1)) start (stands come.said come.names come.count come.turning come.line come.values) ended 0 come.row top.after.row come.turns top.turns
+      turns_then (cells_text xs (sixes xs)) (statements xs [] (sixes xs) (sixes xs - 1)) start (stands come.said come.names come.count come.turning) ended 0 come.row top.after.row come.turns top.turns
 
   all_read : read start (words_of Braces (layout_text xs)) ≡ Ok ended
   unfolding read words_from

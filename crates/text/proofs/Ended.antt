@@ -8,7 +8,7 @@ use Rattle.words.specs.Words.{Token, words_of}
 use Rattle.words.specs.declared.word.Marks.TheVariants.{Braces}
 use Rattle.words.specs.Steps.{by_some, and_then}
 use Rattle.text.specs.Keywords.{keyword_of, slots, slot_at, statement_of}
-use Rattle.text.specs.Readings.{State, start, finished, said_in, inside, may_begin, value_of, closed_by, completed, waiting, settled, fresh, begin, noted, valued, go_on, accept, read}
+use Rattle.text.specs.Readings.{State, Started, start, finished, said_in, inside, may_begin, value_of, closed_by, completed, waiting, settled, begin, noted, valued, go_on, accept, read}
 use Rattle.text.proofs.Cells.{NamesEnded, ends, AllEnded}
 use Rattle.text.specs.declared.keyword.Keyword.{Keyword}
 use Rattle.text.specs.declared.keyword.Slot.{Slot}
@@ -34,17 +34,16 @@ ended-push n (t ∷ ts) x h w =
     (h.0, ended-push (n + ends t.statement) ts x h.1 (subst (λ (u : ℕ). NamesEnded u x.statement) e w))
 
 -- a put that has named its cell
-abbrev pub Half : Option Keyword → ℕ → List ℕ → Type 0
-Half None c vs = Unit {0}
-Half (Some key.Box) c vs = Unit {0}
-Half (Some key.Cell) c vs = Unit {0}
-Half (Some key.Close) c vs = Unit {0}
-Half (Some key.Put) c vs = 0 < length vs → get_or vs 0 0 < c
-Half (Some key.Turned) c vs = Unit {0}
-Half (Some key.Mirrored) c vs = Unit {0}
-Half (Some key.Row) c vs = Unit {0}
-Half (Some key.Column) c vs = Unit {0}
-Half (Some key.Pin) c vs = Unit {0}
+abbrev pub Half : Keyword → ℕ → List ℕ → Type 0
+Half key.Box c vs = Unit {0}
+Half key.Cell c vs = Unit {0}
+Half key.Close c vs = Unit {0}
+Half key.Put c vs = 0 < length vs → get_or vs 0 0 < c
+Half key.Turned c vs = Unit {0}
+Half key.Mirrored c vs = Unit {0}
+Half key.Row c vs = Unit {0}
+Half key.Column c vs = Unit {0}
+Half key.Pin c vs = Unit {0}
 
 -- a statement with all its values
 abbrev Fin : Keyword → ℕ → List ℕ → Bool → Type 0
@@ -58,39 +57,49 @@ Fin key.Row c vs b = get_or vs 2 0 < c
 Fin key.Column c vs b = get_or vs 2 0 < c
 Fin key.Pin c vs b = Unit {0}
 
+abbrev Begun-half : Option Started → ℕ → Type 0
+Begun-half None c = Unit {0}
+Begun-half (Some b) c = Half b.keyword c b.values
+
 pub record Sane (s : State) : Type 0 where
   pub ended : AllEnded 0 s.said
   pub count : s.closed ≡ ends_in s.said
-  pub half : Half s.begun s.closed s.values
+  pub half : Begun-half s.begun s.closed
 
 module _ (s : State) (ended : AllEnded 0 s.said) (count : s.closed ≡ ends_in s.said) where
-  done-sane : (k : Keyword) → NamesEnded s.closed (statement_of k s.values) → closed_by s k ≡ s.closed + ends (statement_of k s.values) → Sane (completed s k)
-  done-sane k w c =
-      let x : Said = record { statement = statement_of k s.values; line = s.line } in
-      let e : s.closed ≡ 0 + ends_in s.said = omega arith in
-      record { ended = ended-push 0 s.said x ended (subst (λ (u : ℕ). NamesEnded u (statement_of k s.values)) e w); count = c ∙ omega (arith, ends-push s.said x); half = tt }
+  module _ (l : ℕ) (vs : List ℕ) where
+    this : Keyword → Started
+    this k = record { keyword = k; line = l; values = vs }
 
-  completed-sane : (k : Keyword) → Fin k s.closed s.values (inside s) → Sane (completed s k)
-  completed-sane key.Box f = done-sane key.Box tt (omega arith)
-  completed-sane key.Cell f = done-sane key.Cell tt (omega arith)
-  completed-sane key.Close f = done-sane key.Close tt (ap (λ b. cond b (s.closed + 1) s.closed) f)
-  completed-sane key.Put f = done-sane key.Put f (omega arith)
-  completed-sane key.Turned f = done-sane key.Turned tt (omega arith)
-  completed-sane key.Mirrored f = done-sane key.Mirrored tt (omega arith)
-  completed-sane key.Row f = done-sane key.Row f (omega arith)
-  completed-sane key.Column f = done-sane key.Column f (omega arith)
-  completed-sane key.Pin f = done-sane key.Pin tt (omega arith)
+    done-sane : (k : Keyword) → NamesEnded s.closed (statement_of k vs) → closed_by s k ≡ s.closed + ends (statement_of k vs) → Sane (completed s (this k))
+    unfolding this
+    done-sane k w c =
+        let x : Said = record { statement = statement_of k vs; line = l } in
+        let e : s.closed ≡ 0 + ends_in s.said = omega arith in
+        record { ended = ended-push 0 s.said x ended (subst (λ (u : ℕ). NamesEnded u (statement_of k vs)) e w); count = c ∙ omega (arith, ends-push s.said x); half = tt }
 
-  settle-sane : (k : Keyword) → Half (Some k) s.closed s.values → (length (slots k) ≤ length s.values → Fin k s.closed s.values (inside s)) → Sane (settled s k)
-  settle-sane k h f = elim (cases_Bool (ltb (length s.values) (length (slots k)))) [
+    completed-sane : (k : Keyword) → Fin k s.closed vs (inside s) → Sane (completed s (this k))
+    completed-sane key.Box f = done-sane key.Box tt (omega arith)
+    completed-sane key.Cell f = done-sane key.Cell tt (omega arith)
+    completed-sane key.Close f = done-sane key.Close tt (ap (λ b. cond b (s.closed + 1) s.closed) f)
+    completed-sane key.Put f = done-sane key.Put f (omega arith)
+    completed-sane key.Turned f = done-sane key.Turned tt (omega arith)
+    completed-sane key.Mirrored f = done-sane key.Mirrored tt (omega arith)
+    completed-sane key.Row f = done-sane key.Row f (omega arith)
+    completed-sane key.Column f = done-sane key.Column f (omega arith)
+    completed-sane key.Pin f = done-sane key.Pin tt (omega arith)
+
+  settle-sane : (b : Started) → Half b.keyword s.closed b.values → (length (slots b.keyword) ≤ length b.values → Fin b.keyword s.closed b.values (inside s)) → Sane (settled s b)
+  unfolding this
+  settle-sane b h f = elim (cases_Bool (ltb (length b.values) (length (slots b.keyword)))) [
     | inl e ↦
-        let w : Sane (waiting s k) = record { ended = ended; count = count; half = h } in
-        subst Sane (sym (ap (λ b. cond b (waiting s k) (completed s k)) e)) w
-    | inr e ↦ subst Sane (sym (ap (λ b. cond b (waiting s k) (completed s k)) e)) (completed-sane k (f (ltb-false _ _ e)))
+        let w : Sane (waiting s (Some b)) = record { ended = ended; count = count; half = h } in
+        subst Sane (sym (ap (λ t. cond t (waiting s (Some b)) (completed s b)) e)) w
+    | inr e ↦ subst Sane (sym (ap (λ t. cond t (waiting s (Some b)) (completed s b)) e)) (completed-sane b.line b.values b.keyword (f (ltb-false _ _ e)))
   ]
 
 -- a statement begins
-fresh-half : (k : Keyword) (c : ℕ) → Half (Some k) c []
+fresh-half : (k : Keyword) (c : ℕ) → Half k c []
 fresh-half key.Box c = tt
 fresh-half key.Cell c = tt
 fresh-half key.Close c = tt
@@ -118,13 +127,16 @@ same_ok e = cc
 never-ok : {n : ℕ} {b : State} → ◌≡◌ {A = Result State ℕ} (Err n) (Ok b) → ⊥
 never-ok e = let z : ◌≡◌ {A = ℕ} 0 1 = cc in omega arith
 
-begin-by : (s z : State) (n : ℕ) → Sane s → (o : Option Keyword) → by_some o (Err n) (λ k. cond (may_begin s k) (Ok (settled (fresh s n) k)) (Err n)) ≡ Ok z → Sane z
+abbrev blank-one : Keyword → ℕ → Started
+blank-one k n = record { keyword = k; line = n; values = [] }
+
+begin-by : (s z : State) (n : ℕ) → Sane s → (o : Option Keyword) → by_some o (Err n) (λ k. cond (may_begin s k) (Ok (settled s (blank-one k n))) (Err n)) ≡ Ok z → Sane z
 begin-by s z n h None e = absurd (never-ok e)
 begin-by s z n h (Some k) e = elim (cases_Bool (may_begin s k)) [
   | inl t ↦
-      let same : settled (fresh s n) k ≡ z = same_ok (sym (ap (λ b. cond b (Ok (settled (fresh s n) k)) (Err n)) t) ∙ e) in
-      subst Sane same (settle-sane (fresh s n) h.ended h.count k (fresh-half k s.closed) (fresh-fin s k t))
-  | inr t ↦ absurd (never-ok (sym (ap (λ b. cond b (Ok (settled (fresh s n) k)) (Err n)) t) ∙ e))
+      let same : settled s (blank-one k n) ≡ z = same_ok (sym (ap (λ b. cond b (Ok (settled s (blank-one k n))) (Err n)) t) ∙ e) in
+      subst Sane same (settle-sane s h.ended h.count (blank-one k n) (fresh-half k s.closed) (fresh-fin s k t))
+  | inr t ↦ absurd (never-ok (sym (ap (λ b. cond b (Ok (settled s (blank-one k n))) (Err n)) t) ∙ e))
 ]
 
 -- it goes on
@@ -149,20 +161,20 @@ cell-by c v (Some k) e = elim (cases_Bool (ltb k c)) [
 cell-value : (s : State) (w : List ℕ) (v : ℕ) → value_of s slot.Cell w ≡ Some v → v < s.closed
 cell-value s w v e = cell-by s.closed v (place_of s.cells w) e
 
-module _ (s : State) (w : List ℕ) (v : ℕ) (p : Slot) (here : value_of s p w ≡ Some v) where
-  last-cell : (k : Keyword) (m : ℕ) → slot_at (slots k) (length s.values) ≡ Some p → length s.values ≡ m → get_or (slots k) m slot.Number ≡ slot.Cell → get_or (s.values ++ v ∷ []) m 0 < s.closed
+module _ (s : State) (vs : List ℕ) (w : List ℕ) (v : ℕ) (p : Slot) (here : value_of s p w ≡ Some v) where
+  last-cell : (k : Keyword) (m : ℕ) → slot_at (slots k) (length vs) ≡ Some p → length vs ≡ m → get_or (slots k) m slot.Number ≡ slot.Cell → get_or (vs ++ v ∷ []) m 0 < s.closed
   last-cell k m e l c =
-      let is : p ≡ slot.Cell = sym (slot_in (slots k) (length s.values) p e).1 ∙ ap (λ i. get_or (slots k) i slot.Number) l ∙ c in
+      let is : p ≡ slot.Cell = sym (slot_in (slots k) (length vs) p e).1 ∙ ap (λ i. get_or (slots k) i slot.Number) l ∙ c in
       let low = cell-value s w v (subst (λ (q : Slot). value_of s q w ≡ Some v) is here) in
-      omega (arith, get_or_push s.values v 0 m l)
+      omega (arith, get_or_push vs v 0 m l)
 
-  put_first : slot_at (slots key.Put) (length s.values) ≡ Some p → (0 < length s.values → get_or s.values 0 0 < s.closed) → get_or (s.values ++ v ∷ []) 0 0 < s.closed
-  put_first e h = elim (cases_eq (length s.values) 0) [
+  put_first : slot_at (slots key.Put) (length vs) ≡ Some p → (0 < length vs → get_or vs 0 0 < s.closed) → get_or (vs ++ v ∷ []) 0 0 < s.closed
+  put_first e h = elim (cases_eq (length vs) 0) [
     | inl l ↦ last-cell key.Put 0 e l refl
-    | inr l ↦ omega (arith, h (omega arith), get_or_append_left s.values (v ∷ []) 0 0 (omega arith))
+    | inr l ↦ omega (arith, h (omega arith), get_or_append_left vs (v ∷ []) 0 0 (omega arith))
   ]
 
-  next-half : (k : Keyword) → slot_at (slots k) (length s.values) ≡ Some p → Half (Some k) s.closed s.values → Half (Some k) s.closed (s.values ++ v ∷ [])
+  next-half : (k : Keyword) → slot_at (slots k) (length vs) ≡ Some p → Half k s.closed vs → Half k s.closed (vs ++ v ∷ [])
   next-half key.Box e h = tt
   next-half key.Cell e h = tt
   next-half key.Close e h = tt
@@ -173,38 +185,39 @@ module _ (s : State) (w : List ℕ) (v : ℕ) (p : Slot) (here : value_of s p w 
   next-half key.Column e h = tt
   next-half key.Pin e h = tt
 
-  next-fin : (b : Bool) (k : Keyword) → slot_at (slots k) (length s.values) ≡ Some p → Half (Some k) s.closed s.values → length (slots k) ≤ length (s.values ++ v ∷ []) → Fin k s.closed (s.values ++ v ∷ []) b
+  next-fin : (b : Bool) (k : Keyword) → slot_at (slots k) (length vs) ≡ Some p → Half k s.closed vs → length (slots k) ≤ length (vs ++ v ∷ []) → Fin k s.closed (vs ++ v ∷ []) b
   next-fin b key.Box e h l = tt
   next-fin b key.Cell e h l = tt
-  next-fin b key.Close e h l = absurd (omega (arith, (slot_in (slots key.Close) (length s.values) p e).0))
+  next-fin b key.Close e h l = absurd (omega (arith, (slot_in (slots key.Close) (length vs) p e).0))
   next-fin b key.Put e h l = put_first e h
   next-fin b key.Turned e h l = tt
   next-fin b key.Mirrored e h l = tt
-  next-fin b key.Row e h l = last-cell key.Row 2 e (omega (arith, length_push s.values v, (slot_in (slots key.Row) (length s.values) p e).0)) refl
-  next-fin b key.Column e h l = last-cell key.Column 2 e (omega (arith, length_push s.values v, (slot_in (slots key.Column) (length s.values) p e).0)) refl
+  next-fin b key.Row e h l = last-cell key.Row 2 e (omega (arith, length_push vs v, (slot_in (slots key.Row) (length vs) p e).0)) refl
+  next-fin b key.Column e h l = last-cell key.Column 2 e (omega (arith, length_push vs v, (slot_in (slots key.Column) (length vs) p e).0)) refl
   next-fin b key.Pin e h l = tt
 
-noted_sane : (s : State) (p : Slot) (w : List ℕ) (v : ℕ) (k : Keyword) → Sane s → Half (Some k) s.closed (s.values ++ v ∷ []) → ((b : Bool) → length (slots k) ≤ length (s.values ++ v ∷ []) → Fin k s.closed (s.values ++ v ∷ []) b) → Sane (settled (valued (noted s p w) v) k)
-noted_sane s slot.Number w v k h a f = settle-sane (valued s v) h.ended h.count k a (f _)
-noted_sane s slot.Cell w v k h a f = settle-sane (valued s v) h.ended h.count k a (f _)
-noted_sane s slot.NewCell w v k h a f = settle-sane (valued (noted s slot.NewCell w) v) h.ended h.count k a (f _)
-noted_sane s slot.NewPin w v k h a f = settle-sane (valued (noted s slot.NewPin w) v) h.ended h.count k a (f _)
-noted_sane s slot.At w v k h a f = settle-sane (valued s v) h.ended h.count k a (f _)
-noted_sane s slot.Open w v k h a f = settle-sane (valued s v) h.ended h.count k a (f _)
+noted_sane : (s : State) (p : Slot) (w : List ℕ) (b : Started) → Sane s → Half b.keyword s.closed b.values → ((t : Bool) → length (slots b.keyword) ≤ length b.values → Fin b.keyword s.closed b.values t) → Sane (settled (noted s p w) b)
+noted_sane s slot.Number w b h a f = settle-sane s h.ended h.count b a (f _)
+noted_sane s slot.Cell w b h a f = settle-sane s h.ended h.count b a (f _)
+noted_sane s slot.NewCell w b h a f = settle-sane (noted s slot.NewCell w) h.ended h.count b a (f _)
+noted_sane s slot.NewPin w b h a f = settle-sane (noted s slot.NewPin w) h.ended h.count b a (f _)
+noted_sane s slot.At w b h a f = settle-sane s h.ended h.count b a (f _)
+noted_sane s slot.Open w b h a f = settle-sane s h.ended h.count b a (f _)
 
-value-by : (s z : State) (k : Keyword) (w : List ℕ) (n : ℕ) (p : Slot) → Sane s → s.begun ≡ Some k → slot_at (slots k) (length s.values) ≡ Some p → (o : Option ℕ) → value_of s p w ≡ o → by_some o (Err n) (λ v. Ok (settled (valued (noted s p w) v) k)) ≡ Ok z → Sane z
-value-by s z k w n p h b e None q t = absurd (never-ok t)
-value-by s z k w n p h b e (Some v) q t =
-    let half = subst (λ (u : Option Keyword). Half u s.closed s.values) b h.half in
-    subst Sane (same_ok t) (noted_sane s p w v k h (next-half s w v p q k e half) (λ c l. next-fin s w v p q c k e half l))
+module _ (s z : State) (b : Started) (w : List ℕ) (n : ℕ) (h : Sane s) (half : Half b.keyword s.closed b.values) where
+  value-by : (p : Slot) → slot_at (slots b.keyword) (length b.values) ≡ Some p → (o : Option ℕ) → value_of s p w ≡ o → by_some o (Err n) (λ v. Ok (settled (noted s p w) (valued b v))) ≡ Ok z → Sane z
+  value-by p e None q t = absurd (never-ok t)
+  value-by p e (Some v) q t = subst Sane (same_ok t) (noted_sane s p w (valued b v) h (next-half s b.values w v p q b.keyword e half) (λ c l. next-fin s b.values w v p q c b.keyword e half l))
 
-slot_by : (s z : State) (k : Keyword) (w : List ℕ) (n : ℕ) → Sane s → s.begun ≡ Some k → (o : Option Slot) → slot_at (slots k) (length s.values) ≡ o → by_some o (Err n) (λ p. by_some (value_of s p w) (Err n) (λ v. Ok (settled (valued (noted s p w) v) k))) ≡ Ok z → Sane z
-slot_by s z k w n h b None q t = absurd (never-ok t)
-slot_by s z k w n h b (Some p) q t = value-by s z k w n p h b q (value_of s p w) refl t
+  slot_by : (o : Option Slot) → slot_at (slots b.keyword) (length b.values) ≡ o → by_some o (Err n) (λ p. by_some (value_of s p w) (Err n) (λ v. Ok (settled (noted s p w) (valued b v)))) ≡ Ok z → Sane z
+  slot_by None q t = absurd (never-ok t)
+  slot_by (Some p) q t = value-by p q (value_of s p w) refl t
 
-accept-by : (s z : State) (w : List ℕ) (n : ℕ) → Sane s → (o : Option Keyword) → s.begun ≡ o → by_some o (begin s w n) (λ k. go_on s k w n) ≡ Ok z → Sane z
-accept-by s z w n h None b t = begin-by s z n h (keyword_of w) t
-accept-by s z w n h (Some k) b t = slot_by s z k w n h b (slot_at (slots k) (length s.values)) refl t
+accept-by : (s z : State) (w : List ℕ) (n : ℕ) → Sane s → (o : Option Started) → s.begun ≡ o → by_some o (begin s w n) (λ b. go_on (waiting s None) b w n) ≡ Ok z → Sane z
+accept-by s z w n h None e t = begin-by s z n h (keyword_of w) t
+accept-by s z w n h (Some b) e t =
+    let idle : Sane (waiting s None) = record { ended = h.ended; count = h.count; half = tt } in
+    slot_by (waiting s None) z b w n idle (subst (λ (u : Option Started). Begun-half u s.closed) e h.half) (slot_at (slots b.keyword) (length b.values)) refl t
 
 read_by : (s z : State) (ts : List Token) (r : Result State ℕ) → ((y : State) → r ≡ Ok y → read y ts ≡ Ok z → Sane z) → and_then r (λ y. read y ts) ≡ Ok z → Sane z
 read_by s z ts (Ok y) f e = f y refl e

@@ -18,21 +18,26 @@ use Rattle.text.specs.declared.keyword.Slot.{Slot}
 use Rattle.text.specs.declared.keyword.Keyword.TheVariants as key
 use Rattle.text.specs.declared.keyword.Slot.TheVariants as slot
 use Rattle.text.specs.declared.statement.Said.{Said}
+use Rattle.text.specs.declared.reader.Begun.{Begun}
 use Rattle.text.specs.declared.reader.Reader.{Reader}
 
--- what has been read: the statements, the names of cells and pins, how many cells have ended, whether a turn may follow, and the statement that has begun, with the values of its words so far
+-- a statement that has begun: its first word with its line, and the values of the words after it so far
+pub record Started : Type 0 where
+  pub keyword : Keyword
+  pub line : ℕ
+  pub values : List ℕ
+
+-- what has been read: the statements, the names of cells and pins, how many cells have ended, whether a turn may follow, and the statement that has begun
 pub record State : Type 0 where
   pub said : List Said
   pub cells : List (List ℕ)
   pub pins : List (List ℕ)
   pub closed : ℕ
   pub turning : Bool
-  pub begun : Option Keyword
-  pub line : ℕ
-  pub values : List ℕ
+  pub begun : Option Started
 
 abbrev pub start : State
-start = record { said = []; cells = []; pins = []; closed = 0; turning = false; begun = None; line = 0; values = [] }
+start = record { said = []; cells = []; pins = []; closed = 0; turning = false; begun = None }
 
 abbrev pub inside : State → Bool
 inside s = nat_lt s.closed (length s.cells)
@@ -65,8 +70,11 @@ value_of s slot.NewPin w = new_name s.pins w
 value_of s slot.At w = cond (bytes_eq w (codes "at")) (Some 0) None
 value_of s slot.Open w = cond (bytes_eq w (codes "{")) (Some 0) None
 
+abbrev pub started : Begun → Started
+started b = record { keyword = b.keyword; line = b.line; values = b.values.items }
+
 abbrev pub state_of : Reader → State
-state_of r = record { said = vec_items r.said; cells = names_of r.cells; pins = names_of r.pins; closed = r.closed; turning = r.turning; begun = r.begun; line = r.line; values = vec_items r.values }
+state_of r = record { said = vec_items r.said; cells = names_of r.cells; pins = names_of r.pins; closed = r.closed; turning = r.turning; begun = by_some r.begun None (λ b. Some (started b)) }
 
 -- how many cells have ended after a statement
 abbrev pub closed_by : State → Keyword → ℕ
@@ -81,51 +89,46 @@ closed_by s key.Column = s.closed
 closed_by s key.Pin = s.closed
 
 -- a statement ends once each of its words has a value
-abbrev pub completed : State → Keyword → State
-completed s k = record {
-  said = s.said ++ record { statement = statement_of k s.values; line = s.line } ∷ [];
+abbrev pub completed : State → Started → State
+completed s b = record {
+  said = s.said ++ record { statement = statement_of b.keyword b.values; line = b.line } ∷ [];
   cells = s.cells;
   pins = s.pins;
-  closed = closed_by s k;
-  turning = turns k;
+  closed = closed_by s b.keyword;
+  turning = turns b.keyword;
   begun = None;
-  line = s.line;
-  values = s.values;
 }
 
-abbrev pub waiting : State → Keyword → State
-waiting s k = record { said = s.said; cells = s.cells; pins = s.pins; closed = s.closed; turning = s.turning; begun = Some k; line = s.line; values = s.values }
+abbrev pub waiting : State → Option Started → State
+waiting s o = record { said = s.said; cells = s.cells; pins = s.pins; closed = s.closed; turning = s.turning; begun = o }
 
-abbrev pub settled : State → Keyword → State
-settled s k = cond (nat_lt (length s.values) (length (slots k))) (waiting s k) (completed s k)
+abbrev pub settled : State → Started → State
+settled s b = cond (nat_lt (length b.values) (length (slots b.keyword))) (waiting s (Some b)) (completed s b)
 
 -- a statement begins
-abbrev pub fresh : State → ℕ → State
-fresh s n = record { said = s.said; cells = s.cells; pins = s.pins; closed = s.closed; turning = s.turning; begun = s.begun; line = n; values = [] }
-
 abbrev pub begin : State → List ℕ → ℕ → Result State ℕ
-begin s w n = by_some (keyword_of w) (Err n) (λ k. cond (may_begin s k) (Ok (settled (fresh s n) k)) (Err n))
+begin s w n = by_some (keyword_of w) (Err n) (λ k. cond (may_begin s k) (Ok (settled s (record { keyword = k; line = n; values = [] }))) (Err n))
 
 -- it goes on with a word and its value; a new name is kept
 abbrev pub noted : State → Slot → List ℕ → State
 noted s slot.Number w = s
 noted s slot.Cell w = s
-noted s slot.NewCell w = record { said = s.said; cells = s.cells ++ w ∷ []; pins = s.pins; closed = s.closed; turning = s.turning; begun = s.begun; line = s.line; values = s.values }
-noted s slot.NewPin w = record { said = s.said; cells = s.cells; pins = s.pins ++ w ∷ []; closed = s.closed; turning = s.turning; begun = s.begun; line = s.line; values = s.values }
+noted s slot.NewCell w = record { said = s.said; cells = s.cells ++ w ∷ []; pins = s.pins; closed = s.closed; turning = s.turning; begun = s.begun }
+noted s slot.NewPin w = record { said = s.said; cells = s.cells; pins = s.pins ++ w ∷ []; closed = s.closed; turning = s.turning; begun = s.begun }
 noted s slot.At w = s
 noted s slot.Open w = s
 
-abbrev pub valued : State → ℕ → State
-valued s v = record { said = s.said; cells = s.cells; pins = s.pins; closed = s.closed; turning = s.turning; begun = s.begun; line = s.line; values = s.values ++ v ∷ [] }
+abbrev pub valued : Started → ℕ → Started
+valued b v = record { keyword = b.keyword; line = b.line; values = b.values ++ v ∷ [] }
 
-abbrev pub go_on : State → Keyword → List ℕ → ℕ → Result State ℕ
-go_on s k w n =
-    by_some (slot_at (slots k) (length s.values)) (Err n)
-    (λ p. by_some (value_of s p w) (Err n) (λ v. Ok (settled (valued (noted s p w) v) k)))
+abbrev pub go_on : State → Started → List ℕ → ℕ → Result State ℕ
+go_on s b w n =
+    by_some (slot_at (slots b.keyword) (length b.values)) (Err n)
+    (λ p. by_some (value_of s p w) (Err n) (λ v. Ok (settled (noted s p w) (valued b v))))
 
 -- one word more, or the line of a word that can't stand here
 abbrev pub accept : State → List ℕ → ℕ → Result State ℕ
-accept s w n = by_some s.begun (begin s w n) (λ k. go_on s k w n)
+accept s w n = by_some s.begun (begin s w n) (λ b. go_on (waiting s None) b w n)
 
 unfoldable pub read : State → List Token → Result State ℕ
 read s [] = Ok s

@@ -13,8 +13,10 @@ use words::name::Names;
 /// What a layout text means: nodes of six numbers, the line of each node's statement where it has one, and the pins in their order, with their names.
 #[derive(Drop)]
 pub struct LayoutText {
+    // Apart, since the layout entries take the numbers of all nodes as one slice.
     pub nodes: Vec<u64>,
     pub lines: Vec<Option<usize>>,
+    // A pin's place is the number of its name in the table that the reader made: a map beside it would only copy that table.
     pub pins: Vec<Pin>,
     pub names: Names,
 }

@@ -32,7 +32,7 @@ pub(crate) struct Plan {
     pub(crate) cells: Vec<u64>,
     /// The nodes of the text's statements.
     pub(crate) outer: Vec<u64>,
-    /// The nodes of the open cell's statements, and its line.
+    /// The nodes of the open cell's statements, and its line. They outlive the cell, as in `Scene`, so no struct holds both.
     pub(crate) inner: Vec<u64>,
     pub(crate) within: Option<usize>,
     pub(crate) put: Option<Put>,
@@ -73,20 +73,15 @@ impl Plan {
         ensures { OnOk result (plan_of self.new ≡ drawn (plan_of self.old) node line) }
     {
         let number = self.sheet.add(node, Some(line))?;
-        self.place(number)?;
-        Ok(())
+        self.place(number)
     }
 
     /// Moves the put that waited for turns.
     fn move_on(&mut self) -> Result<(), AllocError>
         ensures { OnOk result (plan_of self.new ≡ moved_on (plan_of self.old)) }
     {
-        match self.put {
-            Some(p) => {
-                self.put = None;
-                self.draw([3, p.x, p.y, p.node, 0, 0], p.line)?;
-                Ok(())
-            }
+        match self.put.take() {
+            Some(p) => self.draw([3, p.x, p.y, p.node, 0, 0], p.line),
             None => Ok(()),
         }
     }
@@ -95,19 +90,11 @@ impl Plan {
     fn turn(&mut self, kind: u64, side: u64) -> Result<(), AllocError>
         ensures { OnOk result (plan_of self.new ≡ turned (plan_of self.old) kind side) }
     {
-        match self.put {
-            Some(p) => {
-                let node = self.sheet.add([kind, side, p.node, 0, 0, 0], Some(p.line))?;
-                self.put = Some(Put {
-                    node,
-                    x: p.x,
-                    y: p.y,
-                    line: p.line,
-                });
-                Ok(())
-            }
-            None => Ok(()),
+        if let Some(p) = self.put {
+            let node = self.sheet.add([kind, side, p.node, 0, 0, 0], Some(p.line))?;
+            self.put = Some(Put { node, ..p });
         }
+        Ok(())
     }
 
     /// Ends the cell that is open.
@@ -132,19 +119,13 @@ impl Plan {
         ensures { OnOk result (plan_of self.new ≡ said (plan_of self.old) statement line) }
     {
         match statement {
-            Statement::Turned { side } => {
-                self.turn(4, side)?;
-                return Ok(());
+            Statement::Turned { side } => self.turn(4, side),
+            Statement::Mirrored { side } => self.turn(5, side),
+            _ => {
+                self.move_on()?;
+                self.begin(statement, line)
             }
-            Statement::Mirrored { side } => {
-                self.turn(5, side)?;
-                return Ok(());
-            }
-            _ => {}
         }
-        self.move_on()?;
-        self.begin(statement, line)?;
-        Ok(())
     }
 
     /// Draws a statement that is no turn.
@@ -158,40 +139,29 @@ impl Plan {
                 y,
                 across,
                 down,
-            } => {
-                self.draw([1, layer, x, y, across, down], line)?;
-                Ok(())
-            }
+            } => self.draw([1, layer, x, y, across, down], line),
             Statement::Cell => {
                 self.inner.clear();
                 self.within = Some(line);
                 Ok(())
             }
-            Statement::Close => {
-                self.close()?;
-                Ok(())
-            }
+            Statement::Close => self.close(),
             Statement::Put { cell, x, y } => {
                 let node = self.node_of(cell);
                 self.put = Some(Put { node, x, y, line });
                 Ok(())
             }
             Statement::Row { many, far, cell } => {
-                let node = self.node_of(cell);
-                self.draw([6, many, far, node, 0, 0], line)?;
-                Ok(())
+                self.draw([6, many, far, self.node_of(cell), 0, 0], line)
             }
             Statement::Column { many, far, cell } => {
-                let node = self.node_of(cell);
-                self.draw([7, many, far, node, 0, 0], line)?;
-                Ok(())
+                self.draw([7, many, far, self.node_of(cell), 0, 0], line)
             }
             Statement::Pin { layer, x, y } => {
                 self.pins.push(Pin { layer, x, y })?;
                 Ok(())
             }
-            Statement::Turned { .. } => Ok(()),
-            Statement::Mirrored { .. } => Ok(()),
+            Statement::Turned { .. } | Statement::Mirrored { .. } => Ok(()),
         }
     }
 
@@ -201,8 +171,7 @@ impl Plan {
     {
         self.move_on()?;
         let node = self.sheet.join(self.outer.as_slice(), None)?;
-        self.come_last(node)?;
-        Ok(())
+        self.come_last(node)
     }
 
     /// The last node is the layout: a text's only statement may stand before a cell that is never put, and is then moved by nothing.

@@ -2,16 +2,28 @@
 ghost use Rattle.std.specs.Prelude.{◌≡◌, map, OnOk};
 ghost use Rattle.words.specs.Names.{names_of};
 ghost use Rattle.words.specs.Words.{token_of};
-ghost use Rattle.text.specs.Readings.{start, inside, may_begin, new_name, value_of, closed_by, settled, begin, noted, go_on, accept, read, said_in, state_of, Follows, Read};
+ghost use Rattle.text.specs.Readings.{start, inside, may_begin, new_name, value_of, closed_by, settled, begin, noted, go_on, accept, read, said_in, started, state_of, Follows, Read};
 
 use super::keyword::{Keyword, Slot, keyword_of};
 use super::statement::Said;
+use arrayvec::ArrayVec;
 use layout::refusal::{Fault, Refusal};
 use std::alloc::{AllocError, Global};
 use words::line::last_line;
 use words::name::Names;
 use words::number::number;
 use words::word::{Marks, Word, split};
+
+/// The most words that follow the first of a statement.
+const MOST: usize = 5;
+
+/// A statement that has begun: its first word with its line, and one value for each word after it so far.
+#[derive(Drop)]
+pub(crate) struct Begun {
+    pub(crate) keyword: Keyword,
+    pub(crate) line: usize,
+    pub(crate) values: ArrayVec<u64, MOST>,
+}
 
 /// What has been read so far: the statements, the names, and the statement that has begun.
 #[derive(Drop)]
@@ -23,10 +35,7 @@ pub(crate) struct Reader {
     pub(crate) closed: usize,
     /// Whether a turn may follow.
     pub(crate) turning: bool,
-    pub(crate) begun: Option<Keyword>,
-    pub(crate) line: usize,
-    /// One value for each word of the statement after its keyword.
-    pub(crate) values: Vec<u64>,
+    pub(crate) begun: Option<Begun>,
 }
 
 impl Reader {
@@ -40,8 +49,6 @@ impl Reader {
             closed: 0,
             turning: false,
             begun: None,
-            line: 0,
-            values: Vec::new(heap),
         }
     }
 
@@ -100,19 +107,21 @@ impl Reader {
         }
     }
 
-    /// Adds the statement that has begun, once each of its words has a value.
-    fn settle(&mut self, keyword: Keyword) -> Result<(), AllocError>
-        ensures { OnOk result (state_of self.new ≡ settled (state_of self.old) keyword) }
+    /// Adds a statement that has begun, once each of its words has a value.
+    fn settle(&mut self, begun: Begun) -> Result<(), AllocError>
+        ensures { OnOk result (state_of self.new ≡ settled (state_of self.old) (started begun)) }
     {
-        if self.values.len() < keyword.slots().len() {
-            self.begun = Some(keyword);
+        if begun.values.len() < begun.keyword.slots().len() {
+            self.begun = Some(begun);
             return Ok(());
         }
-        let statement = keyword.statement(self.values.as_slice());
-        let line = self.line;
-        self.said.push(Said { statement, line })?;
-        self.closed = self.closed_by(keyword);
-        self.turning = keyword.turns();
+        let statement = begun.keyword.statement(begun.values.as_slice());
+        self.said.push(Said {
+            statement,
+            line: begun.line,
+        })?;
+        self.closed = self.closed_by(begun.keyword);
+        self.turning = begun.keyword.turns();
         self.begun = None;
         Ok(())
     }
@@ -127,9 +136,11 @@ impl Reader {
         if !self.may_begin(keyword) {
             return Err(Fault::Refused(Refusal::Text(line)));
         }
-        self.line = line;
-        self.values.clear();
-        self.settle(keyword)?;
+        self.settle(Begun {
+            keyword,
+            line,
+            values: ArrayVec::new(),
+        })?;
         Ok(())
     }
 
@@ -144,25 +155,25 @@ impl Reader {
         }
     }
 
-    /// Goes on with the statement that has begun.
+    /// Goes on with a statement that has begun.
     fn go_on(
         &mut self,
         heap: Global,
-        keyword: Keyword,
+        mut begun: Begun,
         word: &[u8],
         line: usize,
     ) -> Result<(), Fault>
-        ensures { Follows (go_on (state_of self.old) keyword word.now line) (state_of self.new) result }
+        ensures { Follows (go_on (state_of self.old) (started begun) word.now line) (state_of self.new) result }
     {
-        let Some(slot) = keyword.slot(self.values.len()) else {
+        let Some(slot) = begun.keyword.slot(begun.values.len()) else {
             return Err(Fault::Refused(Refusal::Text(line)));
         };
         let Some(value) = self.value(slot, word) else {
             return Err(Fault::Refused(Refusal::Text(line)));
         };
         self.note(heap, slot, word)?;
-        self.values.push(value)?;
-        self.settle(keyword)?;
+        begun.values.push(value);
+        self.settle(begun)?;
         Ok(())
     }
 
@@ -170,9 +181,9 @@ impl Reader {
     fn accept(&mut self, heap: Global, word: &[u8], line: usize) -> Result<(), Fault>
         ensures { Follows (accept (state_of self.old) word.now line) (state_of self.new) result }
     {
-        match self.begun {
+        match self.begun.take() {
             None => self.begin(word, line),
-            Some(keyword) => self.go_on(heap, keyword, word, line),
+            Some(begun) => self.go_on(heap, begun, word, line),
         }
     }
 }

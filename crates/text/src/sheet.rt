@@ -7,6 +7,7 @@ use std::alloc::AllocError;
 /// Six numbers for each node, and the line of its statement, where it has one.
 #[derive(Drop)]
 pub(crate) struct Sheet {
+    // Apart, since the layout entries take the numbers of all nodes as one slice.
     pub(crate) nodes: Vec<u64>,
     pub(crate) lines: Vec<Option<usize>>,
 }
