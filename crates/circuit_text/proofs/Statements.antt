@@ -1,8 +1,8 @@
 -- What a line says, by how many words it has. Assumes nothing.
-use Rattle.std.proofs.Common.{◌≡◌, ℕ, ◌+◌, ◌<◌, ◌≤◌, true, false, List, [], ◌∷◌, ◌++◌, map, length, get_or, drop, is_some, Some, None, Ok, Err, Option, Result, sym, refl, ap, ◌∙◌, subst, arith}
+use Rattle.std.proofs.Common.{◌≡◌, ℕ, ◌+◌, ◌<◌, ◌≤◌, true, false, List, [], ◌∷◌, ◌++◌, map, length, get_or, drop, is_some, Some, None, Ok, Err, Option, Result, sym, refl, ap, ◌∙◌, subst}
 use lib.ListN.{length-map}
 use Rattle.words.specs.Steps.{by_some, and_then}
-use Rattle.std.proofs.lemmas.List.{get_or-map, drop_more, drop_all}
+use Rattle.std.proofs.lemmas.List.{drop_more, drop_all}
 use Rattle.std.proofs.lemmas.Bool.{false≢true}
 use Rattle.layout.specs.declared.refusal.Fault.{Fault}
 use Rattle.layout.specs.declared.refusal.Fault.TheVariants.{Refused, Memory}
@@ -10,42 +10,10 @@ use Rattle.words.specs.Places.{place_of}
 use Rattle.words.specs.declared.word.Marks.TheVariants.{Plain}
 use Rattle.words.specs.Words.{token_of, Cut}
 use Rattle.words.specs.declared.word.Word.{Word}
-use Rattle.circuit_text.specs.Circuits.{Circuit, blank, net_of, with_net, named_by, spelled}
-use Rattle.circuit_text.specs.Statements.{joined, device_at, new_names, pinned, said_by, stated, Follows}
+use Rattle.circuit_text.specs.Circuits.{Circuit, blank, spelled}
+use Rattle.circuit_text.specs.Statements.{new_names, pinned, said_by, stated, Follows}
 use Rattle.words.proofs.Listings.{Listing, list-stopped}
 use Rattle.circuit_text.specs.CircuitTexts.{LinesRead}
-use Rattle.circuit_text.specs.declared.circuit.Pins.{Pins}
-
-pub joined-not : (n : ℕ) (c : Circuit) (ws : List (List ℕ)) → (length ws ≡ 3 → ⊥) → joined n c ws ≡ Err n
-joined-not n c [] h = refl
-joined-not n c (g ∷ []) h = refl
-joined-not n c (g ∷ (a ∷ [])) h = refl
-joined-not n c (g ∷ (a ∷ (b ∷ []))) h = absurd (h refl)
-joined-not n c (g ∷ (a ∷ (b ∷ (d ∷ ws)))) h = refl
-
-pub joined-unpinned : (n : ℕ) (c : Circuit) (ws : List (List ℕ)) → c.pins ≡ None → joined n c ws ≡ Err n
-joined-unpinned n c [] h = refl
-joined-unpinned n c (g ∷ []) h = refl
-joined-unpinned n c (g ∷ (a ∷ [])) h = refl
-joined-unpinned n c (g ∷ (a ∷ (b ∷ []))) h = ap (λ o. by_some o (Err n) (λ p. Ok (device_at c g a b))) h
-joined-unpinned n c (g ∷ (a ∷ (b ∷ (d ∷ ws)))) h = refl
-
-pub joined-three : (n : ℕ) (c : Circuit) (ws : List (List ℕ)) (p : Pins) → length ws ≡ 3 → c.pins ≡ Some p → joined n c ws ≡ Ok (device_at c (get_or ws 0 []) (get_or ws 1 []) (get_or ws 2 []))
-joined-three n c [] p l h = absurd (omega (arith, l))
-joined-three n c (g ∷ []) p l h = absurd (omega (arith, l))
-joined-three n c (g ∷ (a ∷ [])) p l h = absurd (omega (arith, l))
-joined-three n c (g ∷ (a ∷ (b ∷ []))) p l h = ap (λ o. by_some o (Err n) (λ p. Ok (device_at c g a b))) h
-joined-three n c (g ∷ (a ∷ (b ∷ (d ∷ ws)))) p l h = absurd (omega (arith, l))
-
--- three nets named one after another, and a device at them
-pub device-done :
-    (c₀ c₁ c₂ c₃ : Circuit) (g a b : List ℕ) (x y z : ℕ) → c₁ ≡ named_by c₀ (with_net c₀.names g) → x ≡ net_of c₀.names g → c₂ ≡ named_by c₁ (with_net c₁.names a) → y ≡ net_of c₁.names a →
-    c₃ ≡ named_by c₂ (with_net c₂.names b) → z ≡ net_of c₂.names b → (ds : List ℕ) → ds ≡ c₃.devices ++ x ∷ y ∷ z ∷ [] → device_at c₀ g a b ≡ record { names = c₃.names; pins = c₃.pins; devices = ds }
-device-done c₀ c₁ c₂ c₃ g a b x y z e₁ f₁ e₂ f₂ e₃ f₃ ds q = rw (q, e₃, f₃, e₂, f₂, e₁, f₁)
-
--- the spelling of a word at a place
-pub spelled_at : (ws : List Word) (i : ℕ) (d : Word) → i < length ws → get_or (spelled ws) i [] ≡ (get_or ws i d).bytes.now
-spelled_at ws i d l = get_or-map (λ w. w.bytes.now) ws i d [] l
 
 pub spelled-long : (ws : List Word) → length (spelled ws) ≡ length ws
 spelled-long ws = length-map ws (λ w. w.bytes.now)
@@ -86,11 +54,6 @@ pub pinned-as : (n : ℕ) (c : Circuit) (ws : List (List ℕ)) (r : Result (List
 pinned-as n c ws r h e =
     ap (λ o. by_some o (and_then (new_names n c.names ws) (λ ns. Ok (record { names = ns; pins = Some (record { many = length ws; line = n }); devices = c.devices }))) (λ p. Err n)) (none_is c.pins h)
     ∙ ap (λ v. and_then v (λ ns. Ok (record { names = ns; pins = Some (record { many = length ws; line = n }); devices = c.devices }))) e
-
-pub pinned-again : (n : ℕ) (c : Circuit) (ws : List (List ℕ)) → is_some c.pins ≡ true → pinned n c ws ≡ Err n
-pinned-again n c ws h =
-    let p = there-is c.pins h in
-    ap (λ o. by_some o (and_then (new_names n c.names ws) (λ ns. Ok (record { names = ns; pins = Some (record { many = length ws; line = n }); devices = c.devices }))) (λ p. Err n)) p.1
 
 -- the words of a line
 map-bytes : (ws : List Word) → map (λ t. t.bytes) (map token_of ws) ≡ spelled ws

@@ -14,5 +14,6 @@ pub struct Pins {
 pub struct CircuitText {
     pub names: Names,
     pub pins: Option<Pins>,
+    // Flat, as the comparison of circuits takes them.
     pub devices: Vec<u64>,
 }

@@ -16,6 +16,7 @@ use words::word::Word;
 #[derive(Drop)]
 pub struct RuleText {
     pub kind: RuleKind,
+    // Flat, as the entries of the rules take them.
     pub regions: Vec<u64>,
     pub number: u64,
     pub message: Vec<u8>,

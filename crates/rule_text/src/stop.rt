@@ -6,8 +6,8 @@ ghost use Rattle.rule_text.specs.Faults.{fault_at};
 use layout::refusal::{Fault, Refusal};
 use std::alloc::{AllocError, AllocFailed};
 
-#[derive(Clone, Copy, Debug, PartialEq)]
-pub enum Stop {
+#[derive(Clone, Copy)]
+pub(crate) enum Stop {
     /// A word can't stand where it stands, or one is missing.
     Unreadable,
     Memory,

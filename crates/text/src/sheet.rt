@@ -13,7 +13,7 @@ pub(crate) struct Sheet {
 }
 
 impl Sheet {
-    /// Adds a node, and says which it is.
+    /// Adds a node, and says which it is. Its first number is its kind, as the layout entries know it.
     pub(crate) fn add(&mut self, node: [u64; 6], line: Option<usize>) -> Result<u64, AllocError>
         ensures number { IfOk result (λ n. n ≡ length (sheet_of self.old).lines) }
         ensures after { OnOk result (sheet_of self.new ≡ added (sheet_of self.old) node line) }

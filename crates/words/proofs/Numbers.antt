@@ -1,16 +1,13 @@
 -- Numbers read digit by digit. Assumes nothing.
-use Rattle.std.proofs.Common.{◌≡◌, ℕ, ◌+◌, ◌-◌, ◌*◌, ◌^◌, ◌<◌, ◌≤◌, true, false, cond, ◌&&◌, ◌||◌, ltb, leb, List, [], ◌∷◌, length, get_or, drop, Some, None, Option, sym, ap, ◌∙◌, arith}
-use Rattle.std.proofs.lemmas.Bool.{and_right, or_parts, le-leb, lt-ltb, le-ltb, ltb-false}
+use Rattle.std.proofs.Common.{◌≡◌, ℕ, ◌+◌, ◌-◌, ◌*◌, ◌^◌, ◌<◌, ◌≤◌, true, false, cond, ◌&&◌, ltb, leb, List, [], ◌∷◌, length, get_or, drop, Some, None, Option, sym, ◌∙◌, arith}
+use Rattle.std.proofs.lemmas.Bool.{and_right, and_parts, le-leb, leb-true, lt-ltb, le-ltb}
 use Rattle.std.proofs.lemmas.List.{at_drop_more, at_drop_all}
-use Rattle.std.proofs.lemmas.Bool.Decides.{nat_tests}
+use Rattle.std.specs.Char.{is_ascii_digit}
 use Rattle.words.specs.Numbers.{all_digits, decimal, number_in}
 
 -- what some digits make after those of a number
 abbrev pub number_after : ℕ → List ℕ → Option ℕ
 number_after n bs = cond (all_digits bs && ltb (decimal n bs) (2 ^ 64)) (Some (decimal n bs)) None
-
-pub starts : (bs : List ℕ) → 1 ≤ length bs → number_after 0 bs ≡ number_in bs
-starts bs h = sym (ap (λ t. cond (t && (all_digits bs && ltb (decimal 0 bs) (2 ^ 64))) (Some (decimal 0 bs)) None) (le-leb 1 (length bs) h))
 
 pub grows : (n : ℕ) (bs : List ℕ) → n ≤ decimal n bs
 unfolding decimal
@@ -34,18 +31,15 @@ none_left n h = simp (lt-ltb n (2 ^ 64) h)
 
 -- a loop over the digits: the number so far, and what is left
 module _ (word : List ℕ) (n i : ℕ) (so_far : number_after n (drop i word) ≡ number_in word) where
-  pub bad-digit : i < length word → (ltb (get_or word i 0) 48 || ltb 57 (get_or word i 0)) ≡ true → None ≡ number_in word
-  bad-digit h e =
-      let b = get_or word i 0 in
-      let f : (leb 48 b && leb b 57) ≡ false = grind (arith, nat_tests, e) in
-      sym (no_digit n b (drop (i + 1) word) f) ∙ sym (at_drop_more (number_after n) word i 0 h) ∙ so_far
+  pub bad-digit : i < length word → is_ascii_digit (get_or word i 0) ≡ false → None ≡ number_in word
+  bad-digit h e = sym (no_digit n (get_or word i 0) (drop (i + 1) word) e) ∙ sym (at_drop_more (number_after n) word i 0 h) ∙ so_far
 
-  pub next-digit : i < length word → (ltb (get_or word i 0) 48 || ltb 57 (get_or word i 0)) ≡ false → number_after (n * 10 + (get_or word i 0 - 48)) (drop (i + 1) word) ≡ number_in word
+  pub next-digit : i < length word → is_ascii_digit (get_or word i 0) ≡ true → number_after (n * 10 + (get_or word i 0 - 48)) (drop (i + 1) word) ≡ number_in word
   next-digit h e =
-      let p = or_parts (ltb (get_or word i 0) 48) (ltb 57 (get_or word i 0)) e in
-      sym (digit n (get_or word i 0) (drop (i + 1) word) (ltb-false _ _ p.0) (ltb-false _ _ p.1)) ∙ sym (at_drop_more (number_after n) word i 0 h) ∙ so_far
+      let p = and_parts (leb 48 (get_or word i 0)) (leb (get_or word i 0) 57) e in
+      sym (digit n (get_or word i 0) (drop (i + 1) word) (leb-true _ _ p.0) (leb-true _ _ p.1)) ∙ sym (at_drop_more (number_after n) word i 0 h) ∙ so_far
 
-  pub past-limit : i < length word → (ltb (get_or word i 0) 48 || ltb 57 (get_or word i 0)) ≡ false → (n * 10 + (get_or word i 0 - 48) < 2 ^ 64 → ⊥) → None ≡ number_in word
+  pub past-limit : i < length word → is_ascii_digit (get_or word i 0) ≡ true → (n * 10 + (get_or word i 0 - 48) < 2 ^ 64 → ⊥) → None ≡ number_in word
   past-limit h e o = sym (too_large (n * 10 + (get_or word i 0 - 48)) (drop (i + 1) word) (omega arith)) ∙ next-digit h e
 
   pub last-digit : length word ≤ i → n < 2 ^ 64 → Some n ≡ number_in word

@@ -1,5 +1,5 @@
 -- Runs of letters and comments in a text, and its words. Assumes nothing.
-use Rattle.std.proofs.Common.{◌≡◌, ℕ, suc, ◌+◌, ◌-◌, ◌<◌, ◌≤◌, true, false, not, cond, eqb, List, [], ◌∷◌, ◌++◌, map, length, take, drop, sym, refl, ap, ◌∙◌, subst, inl, inr, arith}
+use Rattle.std.proofs.Common.{◌≡◌, ℕ, suc, ◌+◌, ◌-◌, ◌≤◌, true, false, not, cond, eqb, List, [], ◌∷◌, ◌++◌, map, length, take, drop, sym, refl, ap, ◌∙◌, subst, inl, inr, arith}
 use Rattle.std.proofs.lemmas.List.{append_assoc, append-nil, drop-drop, map_push, length-drop, length-take}
 use Rattle.std.proofs.lemmas.List.Sums.{take_while-cons}
 use Rattle.std.proofs.lemmas.Bool.{cases_Bool, false≢true}
@@ -158,11 +158,6 @@ pub record Cutting (m : Marks) (text : List ℕ) (ws : List Word) (line at : ℕ
   pub same : map token_of ws ++ words_from m line at false [] rest ≡ words_of m text
 
 module _ (m : Marks) (text : List ℕ) where
-  pub cut-none : Cutting m text [] 0 (length text - length text) text
-  cut-none =
-      let z : ◌≡◌ {A = ℕ} 0 (length text - length text) = omega arith in
-      subst (λ (at : ℕ). Cutting m text [] 0 at text) z (record { here = omega arith; suffix = refl; lines = omega arith; inside = tt; same = refl })
-
   pub cut_all : (ws : List Word) (line at : ℕ) (rest : List ℕ) → Cutting m text ws line at rest → length rest ≡ 0 → Cut m text ws
   unfolding words_from
   cut_all ws line at [] c h = record { inside = c.inside; same = sym (append-nil (map token_of ws)) ∙ c.same }
@@ -230,9 +225,6 @@ module _ (m : Marks) (text : List ℕ) (ws : List Word) (line at : ℕ) (rest : 
     | inr t ↦ rw t
   ]
 
-  pub comment-moves : Comment ≡ kind_of m b → (k : ℕ) → k ≡ length (take_while (λ b. not (eqb b 10)) rest) → (0 < k) × (k ≤ length rest)
-  comment-moves e k h = (omega (arith, comment-long e), omega (arith, comment-long e, rest-long bs, ap length is))
-
   pub cut-comment : Comment ≡ kind_of m b → (k : ℕ) → k ≡ length (take_while (λ b. not (eqb b 10)) rest) → (left : List ℕ) → left ≡ drop k rest → Cutting m text ws line (length text - length left) left
   cut-comment e k h left l =
       let n = length (rest_of_line bs) in
@@ -260,8 +252,3 @@ module _ (m : Marks) (text : List ℕ) (ws : List Word) (line at : ℕ) (rest : 
         in
         subst (λ (us : List ℕ). Cutting m text (ws ++ w ∷ []) line (length text - length us) us) (sym (l ∙ ap (drop k) is ∙ ap (λ j. drop j (b ∷ bs)) long))
         (cut_off m text ws line at (b ∷ bs) here (length ls) w (letters-short m (b ∷ bs)) (spelled ∙ f ∙ ap (take k) is ∙ ap (λ j. take j (b ∷ bs)) long) starts lined cut)
-
-  pub letters-move : Letter ≡ kind_of m b → (k : ℕ) → k ≡ length (take_while (λ b. is_letter (kind_of m b)) rest) → (0 < k) × (k ≤ length rest)
-  letters-move e k h =
-      let long : k ≡ length (letters m (b ∷ bs)) = h ∙ ap length (letters-taken m rest) ∙ ap (λ us. length (letters m us)) is in
-      (omega (arith, long, ap length (letters-yes m b bs (sym (ap is_letter e)))), omega (arith, long, letters-short m (b ∷ bs), ap length is))

@@ -11,7 +11,7 @@ pub fn number(word: &[u8]) -> Option<u64>
     }
     let mut value: u64 = 0;
     for b in word {
-        if (*b < b'0') | (*b > b'9') {
+        if !b.is_ascii_digit() {
             return None;
         }
         value = value.checked_mul(10)?.checked_add(u64::from(*b - b'0'))?;

@@ -36,10 +36,7 @@ impl Kind {
     fn is_letter(self) -> bool
         ensures { result ≡ is_letter self }
     {
-        match self {
-            Kind::Letter => true,
-            _ => false,
-        }
+        matches!(self, Kind::Letter)
     }
 }
 
@@ -48,27 +45,21 @@ fn marked(marks: Marks, byte: u8) -> bool
 {
     match marks {
         Marks::Plain => false,
-        Marks::Braces => (byte == b'{') | (byte == b'}'),
-        Marks::Parentheses => (byte == b'(') | (byte == b')'),
+        Marks::Braces => matches!(byte, b'{' | b'}'),
+        Marks::Parentheses => matches!(byte, b'(' | b')'),
     }
 }
 
 fn kind_of(marks: Marks, byte: u8) -> Kind
     ensures { result ≡ kind_of marks byte }
 {
-    if byte == b'\n' {
-        return Kind::Newline;
+    match byte {
+        b'\n' => Kind::Newline,
+        b' ' | b'\t' | b'\r' => Kind::Blank,
+        b'#' => Kind::Comment,
+        _ if marked(marks, byte) => Kind::Mark,
+        _ => Kind::Letter,
     }
-    if (byte == b' ') | (byte == b'\t') | (byte == b'\r') {
-        return Kind::Blank;
-    }
-    if byte == b'#' {
-        return Kind::Comment;
-    }
-    if marked(marks, byte) {
-        return Kind::Mark;
-    }
-    Kind::Letter
 }
 
 /// How many letters a text begins with.

@@ -3,14 +3,9 @@ use Rattle.std.proofs.Common.{List, map, vec_items, Some, sym, ap, ◌∙◌}
 use Rattle.std.proofs.lemmas.Result.{err_from_is_err_and}
 use Rattle.words.specs.Words.{token_of}
 use Rattle.words.specs.declared.word.Word.{Word}
-use Rattle.rule_text.specs.Expressions.{region_from, expression_of}
-use Rattle.rule_text.specs.declared.expression.Frame.{Frame}
-use Rattle.rule_text.specs.declared.expression.Awaits.TheVariants as awaits
+use Rattle.rule_text.specs.Expressions.{expression_of}
 use Rattle.rule_text.proofs.Expressions.{stopped, done, more, none_left}
 use Rattle.rule_text.proofs.expression.read_region.Goals as goal
-
-pub loop-at-init : goal.loop-at-init
-loop-at-init c = ap (λ (fs : List Frame). region_from (record { nodes = vec_items c.args.nodes; frames = fs; next = awaits.Operand }) (map token_of c.args.words.now)) c.new.ensures.items
 
 pub returns-in_err-accept : goal.returns-in_err-accept
 returns-in_err-accept c =

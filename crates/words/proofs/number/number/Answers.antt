@@ -1,23 +1,19 @@
 -- What `number` needs beyond what the search finds.
-use Rattle.std.proofs.Common.{◌≡◌, ◌+◌, length, drop, sym, ◌∙◌, subst, arith}
-use Rattle.std.proofs.lemmas.Bool.{eqb-false}
+use Rattle.std.proofs.Common.{◌≡◌, ◌+◌, drop, sym, ◌∙◌, subst, arith}
 use Rattle.words.specs.Numbers.{number_in}
-use Rattle.words.proofs.Numbers.{number_after, starts, bad-digit, next-digit, past-limit, last-digit}
+use Rattle.words.proofs.Numbers.{number_after, bad-digit, next-digit, past-limit, last-digit}
 use Rattle.words.proofs.number.number.Goals as goal
 
-pub loop-b-init : goal.loop-b-init
-loop-b-init c = let n = eqb-false (length c.args.word.now) 0 (sym c.if-is_empty.ensures) in (omega arith, starts c.args.word.now (omega arith))
-
-pub returns-then-b : goal.returns-then-b
-returns-then-b c = bad-digit c.args.word.now c.loop-b.value c.loop-b.b-index c.loop-b.invariant.1 (omega arith) c.if-b.true
+pub returns-then-not-is_ascii_digit : goal.returns-then-not-is_ascii_digit
+returns-then-not-is_ascii_digit c = bad-digit c.args.word.now c.loop-b.value c.loop-b.b-index c.loop-b.invariant.1 (omega arith) (sym c.is_ascii_digit.ensures.value ∙ c.if-not-is_ascii_digit.true)
 
 pub returns-in_err-checked_mul : goal.returns-in_err-checked_mul
 returns-in_err-checked_mul c =
-    c.from_residual.ensures ∙ past-limit c.args.word.now c.loop-b.value c.loop-b.b-index c.loop-b.invariant.1 (omega arith) c.if-b.false (λ h. c.in_err-checked_mul.ensures (omega arith))
+    c.from_residual.ensures ∙ past-limit c.args.word.now c.loop-b.value c.loop-b.b-index c.loop-b.invariant.1 (omega arith) (sym c.is_ascii_digit.ensures.value ∙ c.if-not-is_ascii_digit.false) (λ h. c.in_err-checked_mul.ensures (omega arith))
 
 pub returns-in_err-value : goal.returns-in_err-value
 returns-in_err-value c =
-    c.from_residual-in_err-value.ensures ∙ past-limit c.args.word.now c.loop-b.value c.loop-b.b-index c.loop-b.invariant.1 (omega arith) c.if-b.false
+    c.from_residual-in_err-value.ensures ∙ past-limit c.args.word.now c.loop-b.value c.loop-b.b-index c.loop-b.invariant.1 (omega arith) (sym c.is_ascii_digit.ensures.value ∙ c.if-not-is_ascii_digit.false)
     (λ h. c.in_err-value.ensures (omega (arith, c.in_ok-checked_mul.ensures.1, c.from.ensures)))
 
 pub loop-b-preserved : goal.loop-b-preserved
@@ -25,7 +21,7 @@ loop-b-preserved c = (
   omega (arith, c.in_ok-value.ensures.0, c.in_ok-value.ensures.1),
   subst (λ n. number_after n (drop (c.loop-b.b-index + 1) c.args.word.now) ≡ number_in c.args.word.now)
       (omega (arith, c.in_ok-checked_mul.ensures.1, c.from.ensures, c.in_ok-value.ensures.1))
-      (next-digit c.args.word.now c.loop-b.value c.loop-b.b-index c.loop-b.invariant.1 (omega arith) c.if-b.false),
+      (next-digit c.args.word.now c.loop-b.value c.loop-b.b-index c.loop-b.invariant.1 (omega arith) (sym c.is_ascii_digit.ensures.value ∙ c.if-not-is_ascii_digit.false)),
 )
 
 pub returns : goal.returns

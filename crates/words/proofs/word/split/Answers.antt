@@ -1,25 +1,14 @@
 -- What `split` needs beyond what the search finds.
-use Rattle.std.proofs.Common.{◌-◌, length, sym, refl, subst, List, arith}
+use Rattle.std.proofs.Common.{◌-◌, length, sym, refl, subst, List}
 use Rattle.words.specs.declared.word.Word.{Word}
-use Rattle.words.proofs.Words.{Cutting, cut-none, cut_all, cut-newline, cut-blank, cut-comment, comment-moves, cut-mark, cut-letters, letters-move}
+use Rattle.words.proofs.Words.{Cutting, cut_all, cut-newline, cut-blank, cut-comment, cut-mark, cut-letters}
 use Rattle.words.proofs.word.split.Goals as goal
-
-pub loop-byte-init : goal.loop-byte-init
-loop-byte-init c = subst (λ (ws : List Word). Cutting c.args.marks c.args.text.now ws 0 (length c.args.text.now - length c.args.text.now) c.args.text.now) (sym c.new-words.ensures.items) (cut-none c.args.marks c.args.text.now)
 
 pub loop-byte-preserved-in-Newline : goal.loop-byte-preserved-in-Newline
 loop-byte-preserved-in-Newline c = cut-newline _ _ _ _ _ _ c.loop-byte.invariant _ _ c.in-Some.ensures.cases.0 c.in-Newline.ensures
 
 pub loop-byte-preserved-in-Blank : goal.loop-byte-preserved-in-Blank
 loop-byte-preserved-in-Blank c = cut-blank _ _ _ _ _ _ c.loop-byte.invariant _ _ c.in-Some.ensures.cases.0 c.in-Blank.ensures
-
-pub split_at-requires : goal.split_at-requires
-split_at-requires c = (comment-moves _ _ _ _ _ _ c.loop-byte.invariant _ _ c.in-Some.ensures.cases.0 c.in-Comment.ensures _ c.line_length.ensures).1
-
-pub loop-byte-smaller-in-Comment : goal.loop-byte-smaller-in-Comment
-loop-byte-smaller-in-Comment c =
-    let k = comment-moves _ _ _ _ _ _ c.loop-byte.invariant _ _ c.in-Some.ensures.cases.0 c.in-Comment.ensures c.line_length.result c.line_length.ensures in
-    omega (arith, k.0, c.split_at.ensures.back_len)
 
 pub loop-byte-preserved-in-Comment : goal.loop-byte-preserved-in-Comment
 loop-byte-preserved-in-Comment c = cut-comment _ _ _ _ _ _ c.loop-byte.invariant _ _ c.in-Some.ensures.cases.0 c.in-Comment.ensures _ c.line_length.ensures _ c.split_at.ensures.back
@@ -29,14 +18,6 @@ loop-byte-preserved-in-Mark c =
     let left = c.split_at-in-Mark.result.1.now in
     subst (λ (ws : List Word). Cutting c.args.marks c.args.text.now ws c.loop-byte.line (length c.args.text.now - length left) left) (sym c.in_ok-push-in-Mark.ensures.items)
     (cut-mark _ _ _ _ _ _ c.loop-byte.invariant _ _ c.in-Some.ensures.cases.0 _ _ _ refl refl refl c.in-Mark.ensures c.split_at-in-Mark.ensures.front c.split_at-in-Mark.ensures.back)
-
-pub loop-byte-smaller : goal.loop-byte-smaller
-loop-byte-smaller c =
-    let k = letters-move _ _ _ _ _ _ c.loop-byte.invariant _ _ c.in-Some.ensures.cases.0 c.in-Letter.ensures c.letters_count.result c.letters_count.ensures in
-    omega (arith, k.0, c.split_at-in-Letter.ensures.back_len)
-
-pub split_at-requires-in-Letter : goal.split_at-requires-in-Letter
-split_at-requires-in-Letter c = (letters-move _ _ _ _ _ _ c.loop-byte.invariant _ _ c.in-Some.ensures.cases.0 c.in-Letter.ensures c.letters_count.result c.letters_count.ensures).1
 
 pub loop-byte-preserved : goal.loop-byte-preserved
 loop-byte-preserved c =

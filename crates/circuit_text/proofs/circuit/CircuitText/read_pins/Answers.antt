@@ -4,14 +4,8 @@ use Rattle.words.specs.Places.{place_of}
 use Rattle.words.specs.Names.{names_of}
 use Rattle.circuit_text.specs.Circuits.{Circuit, circuit_of, spelled}
 use Rattle.circuit_text.specs.Statements.{new_names}
-use Rattle.circuit_text.proofs.Statements.{names-next, names-known, names-done, pinned-as, pinned-again, spelled-long}
+use Rattle.circuit_text.proofs.Statements.{names-next, names-known, names-done, pinned-as, spelled-long}
 use Rattle.circuit_text.proofs.circuit.CircuitText.read_pins.Goals as goal
-
-pub returns-then-is_some : goal.returns-then-is_some
-returns-then-is_some c = (refl, pinned-again c.args.line (circuit_of c.args.self.now) (spelled c.args.words.now) (sym c.if-is_some.ensures))
-
-pub loop-word-init : goal.loop-word-init
-loop-word-init c = (refl, refl, refl)
 
 pub returns-then-is_some-2 : goal.returns-then-is_some-2
 returns-then-is_some-2 c =
