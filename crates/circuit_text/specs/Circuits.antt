@@ -1,6 +1,5 @@
 -- A circuit by the names of its nets. Assumes nothing: these are definitions.
 use Rattle.std.specs.Prelude.{ℕ, List, [], ◌∷◌, ◌++◌, map, length, None, vec_items, Option}
-use Rattle.words.specs.Names.{names_of}
 use Rattle.words.specs.Places.{place_of}
 use Rattle.words.specs.Steps.{by_some}
 use Rattle.words.specs.declared.word.Word.{Word}
@@ -17,7 +16,7 @@ abbrev pub blank : Circuit
 blank = record { names = []; pins = None; devices = [] }
 
 abbrev pub circuit_of : CircuitText → Circuit
-circuit_of c = record { names = names_of c.names; pins = c.pins; devices = vec_items c.devices }
+circuit_of c = record { names = c.names; pins = c.pins; devices = vec_items c.devices }
 
 -- the number of a name, which is a new one where the name is new
 abbrev pub net_of : List (List ℕ) → List ℕ → ℕ

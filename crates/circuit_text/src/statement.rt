@@ -1,6 +1,5 @@
 // The statements of a circuit text.
 ghost use Rattle.std.specs.Prelude.{◌≡◌, map, IfOk, OnOk};
-ghost use Rattle.words.specs.Names.{names_of};
 ghost use Rattle.circuit_text.specs.Circuits.{circuit_of, net_of, with_net, named_by, spelled};
 ghost use Rattle.circuit_text.specs.Statements.{pinned, joined, stated, Follows};
 
@@ -12,8 +11,8 @@ use words::word::{Marks, Word, split};
 impl CircuitText {
     // The net of a name, a new one where it is new.
     fn net(&mut self, heap: Global, name: &[u8]) -> Result<u64, AllocError>
-        ensures number { IfOk result (λ n. n ≡ net_of (names_of self.old.names) name.now) }
-        ensures after { OnOk result (circuit_of self.new ≡ named_by (circuit_of self.old) (with_net (names_of self.old.names) name.now)) }
+        ensures number { IfOk result (λ n. n ≡ net_of self.old.names name.now) }
+        ensures after { OnOk result (circuit_of self.new ≡ named_by (circuit_of self.old) (with_net self.old.names name.now)) }
     {
         if let Some(net) = self.names.find(name) {
             return Ok(net as u64);

@@ -5,7 +5,6 @@ use Rattle.layout.specs.declared.refusal.Fault.{Fault}
 use Rattle.layout.specs.declared.refusal.Fault.TheVariants.{Refused, Memory}
 use Rattle.layout.specs.declared.refusal.Refusal.TheVariants.{Text}
 use Rattle.words.specs.Places.{place_of as place-among}
-use Rattle.words.specs.Names.{names_of}
 use Rattle.words.specs.Steps.{by_some, and_then}
 use Rattle.text.specs.Readings.{State, said_in}
 use Rattle.text.specs.Plans.{blank, all_said, finished}
@@ -29,7 +28,7 @@ abbrev pub layout_text : List ℕ → Result Meaning ℕ
 layout_text text = and_then (said_in text) (λ s. Ok (meant s))
 
 abbrev pub meaning_of : LayoutText → Meaning
-meaning_of t = record { nodes = vec_items t.nodes; lines = vec_items t.lines; pins = vec_items t.pins; names = names_of t.names }
+meaning_of t = record { nodes = vec_items t.nodes; lines = vec_items t.lines; pins = vec_items t.pins; names = t.names }
 
 abbrev pub pin_named : Meaning → List ℕ → Option Pin
 pin_named m name = by_some (place-among m.names name) None (λ k. cond (nat_lt k (length m.pins)) (Some (slice_index_or m.pins k (record { layer = 0; x = 0; y = 0 }))) None)

@@ -8,7 +8,6 @@ use Rattle.layout.specs.Refusals.{place_of}
 use Rattle.words.specs.Lines.{last_line}
 use Rattle.words.specs.Words.{Token, words_of}
 use Rattle.words.specs.declared.word.Marks.TheVariants.{Braces}
-use Rattle.words.specs.Names.{names_of}
 use Rattle.words.specs.Places.{place_of as place-among}
 use Rattle.words.specs.Numbers.{number_in}
 use Rattle.words.specs.Steps.{by_some, and_then}
@@ -74,7 +73,7 @@ abbrev pub started : Begun → Started
 started b = record { keyword = b.keyword; line = b.line; values = b.values.items }
 
 abbrev pub state_of : Reader → State
-state_of r = record { said = vec_items r.said; cells = names_of r.cells; pins = names_of r.pins; closed = r.closed; turning = r.turning; begun = by_some r.begun None (λ b. Some (started b)) }
+state_of r = record { said = vec_items r.said; cells = r.cells; pins = r.pins; closed = r.closed; turning = r.turning; begun = by_some r.begun None (λ b. Some (started b)) }
 
 -- how many cells have ended after a statement
 abbrev pub closed_by : State → Keyword → ℕ

@@ -1,6 +1,5 @@
 // Reads the words of a layout text, one after another, into statements.
 ghost use Rattle.std.specs.Prelude.{◌≡◌, map, OnOk};
-ghost use Rattle.words.specs.Names.{names_of};
 ghost use Rattle.words.specs.Words.{token_of};
 ghost use Rattle.text.specs.Readings.{start, inside, may_begin, new_name, value_of, closed_by, settled, begin, noted, go_on, accept, read, said_in, started, state_of, Follows, Read};
 
@@ -102,7 +101,7 @@ impl Reader {
         ensures { result ≡ closed_by (state_of self.now) keyword }
     {
         match keyword {
-            Keyword::Close if self.inside() => self.closed + 1,
+            Keyword::Close if self.closed < self.cells.len() => self.closed + 1,
             _ => self.closed,
         }
     }
@@ -213,7 +212,7 @@ pub(crate) fn read_statements(heap: Global, text: &[u8]) -> Result<Reader, Fault
 
 /// 0 for a name that is new.
 fn new_name(names: &Names, word: &[u8]) -> Option<u64>
-    ensures { result ≡ new_name (names_of names.now) word.now }
+    ensures { result ≡ new_name names.now word.now }
 {
     match word {
         b"{" | b"}" => None,

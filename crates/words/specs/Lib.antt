@@ -4,5 +4,4 @@ pub mod Lines
 pub mod LinesLeft
 pub mod Numbers
 pub mod Places
-pub mod Names
 pub mod Steps

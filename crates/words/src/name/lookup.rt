@@ -1,7 +1,6 @@
 // Names added and found again.
 ghost use Rattle.std.specs.Prelude.{◌≡◌, [], ◌∷◌, ◌++◌, length, OnOk};
 ghost use Rattle.words.specs.Places.{place_of};
-ghost use Rattle.words.specs.Names.{names_of};
 
 use super::Names;
 use std::alloc::{AllocError, Global};
@@ -9,7 +8,7 @@ use std::collections::HashMap;
 
 impl Names {
     pub fn new(heap: Global) -> Names
-        ensures { names_of result ≡ [] }
+        ensures { result ≡ [] }
     {
         Names {
             names: Vec::new(heap),
@@ -19,21 +18,21 @@ impl Names {
 
     /// How many names there are.
     pub fn len(&self) -> usize
-        ensures { result ≡ length (names_of self.now) }
+        ensures { result ≡ length self.now }
     {
         self.names.len()
     }
 
     /// The number of a name: the last that was added so.
     pub fn find(&self, name: &[u8]) -> Option<usize>
-        ensures { result ≡ place_of (names_of self.now) name.now }
+        ensures { result ≡ place_of self.now name.now }
     {
         self.places.get(name).copied()
     }
 
     /// Adds a name under the next number.
     pub fn add(&mut self, heap: Global, name: &[u8]) -> Result<(), AllocError>
-        ensures { OnOk result (names_of self.new ≡ names_of self.old ++ name.now ∷ []) }
+        ensures { OnOk result (self.new ≡ self.old ++ name.now ∷ []) }
     {
         let key = name.to_vec(heap)?;
         let name = name.to_vec(heap)?;

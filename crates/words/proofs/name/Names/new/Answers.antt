@@ -5,4 +5,4 @@ use Rattle.words.proofs.name.Names.new.Goals as goal
 
 pub invariant_of-result : goal.invariant_of-result
 unfolding place_below
-invariant_of-result c = record { placed = λ w. rw (c.new-2.ensures.empty, c.new.ensures.items) refl }
+invariant_of-result c = λ w. rw (c.new-2.ensures.empty, c.new.ensures.items) refl
