@@ -15,10 +15,7 @@ fn line_length(edges: &[u64]) -> Option<u64>
     let mut sum: u64 = 0;
     let mut rest = edges;
     while let [left, right, after @ ..] = rest {
-        let Some(more) = sum.checked_add(right.saturating_sub(*left)) else {
-            return None;
-        };
-        sum = more;
+        sum = sum.checked_add(right.saturating_sub(*left))?;
         rest = after;
     }
     Some(sum)
@@ -29,10 +26,7 @@ fn band_area(band: &Band, rows: u64) -> Option<u64>
     requires { 0 < rows }
     ensures { Sums (length_of (edges band.now) * rows) result }
 {
-    match line_length(band.line.edges()) {
-        Some(across) => across.checked_mul(rows),
-        None => None,
-    }
+    line_length(band.line.edges())?.checked_mul(rows)
 }
 
 fn bands_area(bands: &[Band]) -> Option<u64>
@@ -42,13 +36,8 @@ fn bands_area(bands: &[Band]) -> Option<u64>
     let mut sum: u64 = 0;
     let mut rest = bands;
     while let [band, next, ..] = rest {
-        let Some(area) = band_area(band, next.from - band.from) else {
-            return None;
-        };
-        let Some(more) = sum.checked_add(area) else {
-            return None;
-        };
-        sum = more;
+        let area = band_area(band, next.from - band.from)?;
+        sum = sum.checked_add(area)?;
         rest = &rest[1..];
     }
     Some(sum)

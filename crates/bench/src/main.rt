@@ -6,10 +6,10 @@ ghost use Rattle.std.specs.Prelude.{◌^◌, ◌<◌, IfSome};
 ghost use Rattle.std.specs.List.{AllByRecursion};
 ghost use Rattle.layout.specs.Rects.{Within};
 
+use layout::boxes::Boxes;
 use layout::rect::Rect;
-use nets::join::connect;
+use nets::mask::Mask;
 use nets::process::Process;
-use nets::wire::wire_tiles;
 use region::regions::Region;
 use rules::broken::{close, narrow, shallow};
 use std::alloc::{AllocError, Global};
@@ -33,16 +33,7 @@ fn parse_box(line: &str) -> Option<Rect>
     let y = words.next()?.parse::<u64>().ok()?;
     let across = words.next()?.parse::<u64>().ok()?;
     let down = words.next()?.parse::<u64>().ok()?;
-    if x > FAR {
-        return None;
-    }
-    if y > FAR {
-        return None;
-    }
-    if across > FAR {
-        return None;
-    }
-    if down > FAR {
+    if x > FAR || y > FAR || across > FAR || down > FAR {
         return None;
     }
     Some(Rect {
@@ -55,13 +46,13 @@ fn parse_box(line: &str) -> Option<Rect>
 }
 
 // One box more; false where the line is none.
-fn add_box(boxes: &mut Vec<Rect>, line: &str) -> Result<bool, AllocError>
-    requires { AllByRecursion (Within (2 ^ 40)) boxes.old.items }
-    ensures { AllByRecursion (Within (2 ^ 40)) boxes.new.items }
+fn add_box(rects: &mut Vec<Rect>, line: &str) -> Result<bool, AllocError>
+    requires { AllByRecursion (Within (2 ^ 40)) rects.old.items }
+    ensures { AllByRecursion (Within (2 ^ 40)) rects.new.items }
 {
     match parse_box(line) {
         Some(rect) => {
-            boxes.push(rect)?;
+            rects.push(rect)?;
             Ok(true)
         }
         None => Ok(false),
@@ -78,11 +69,9 @@ fn intervals(region: &Region) -> u64 {
 }
 
 // The layer's region, timed.
-fn sweep_layer(rt: &HostRuntime, boxes: &[Rect], layer: u64) -> anyhow::Result<Region>
-    requires { AllByRecursion (Within (2 ^ 40)) boxes.now }
-{
+fn sweep_layer(rt: &HostRuntime, boxes: &Boxes<'_>, layer: u64) -> anyhow::Result<Region> {
     let start = Instant::now(rt)?;
-    let region = Region::from_boxes(rt.alloc(), boxes, layer)?;
+    let region = Region::from_boxes(rt.alloc(), boxes.rects, layer)?;
     let micros = start.elapsed(rt)?.as_micros();
     let bands = region.bands().len();
     let count = intervals(&region);
@@ -91,62 +80,43 @@ fn sweep_layer(rt: &HostRuntime, boxes: &[Rect], layer: u64) -> anyhow::Result<R
     Ok(region)
 }
 
-fn time_wide(rt: &HostRuntime, layer: u64, region: &Region, side: u64) -> anyhow::Result<()>
-    requires { 0 < side }
+// What breaks a rule, timed.
+fn time_rule<F: Fn() -> Result<Region, AllocError>>(
+    rt: &HostRuntime,
+    name: &str,
+    rule: F,
+) -> anyhow::Result<()>
+    requires { F.IsAlwaysCallable rule }
 {
     let start = Instant::now(rt)?;
-    let broken = narrow(rt.alloc(), region, side)?;
+    let broken = rule()?;
     let micros = start.elapsed(rt)?.as_micros();
     let count = intervals(&broken);
-    println!(rt; "wide {layer} {side}: {count} intervals broken")?;
-    eprintln!(rt; "wide {layer} {side}: {micros} us")?;
-    Ok(())
-}
-
-fn time_apart(rt: &HostRuntime, layer: u64, region: &Region, side: u64) -> anyhow::Result<()>
-    requires { 0 < side }
-{
-    let start = Instant::now(rt)?;
-    let broken = close(rt.alloc(), region, side)?;
-    let micros = start.elapsed(rt)?.as_micros();
-    let count = intervals(&broken);
-    println!(rt; "apart {layer} {side}: {count} intervals broken")?;
-    eprintln!(rt; "apart {layer} {side}: {micros} us")?;
-    Ok(())
-}
-
-fn time_inside(rt: &HostRuntime, name: &str, a: &Region, b: &Region) -> anyhow::Result<()> {
-    let start = Instant::now(rt)?;
-    let broken = shallow(rt.alloc(), a, b, 1)?;
-    let micros = start.elapsed(rt)?.as_micros();
-    let count = intervals(&broken);
-    println!(rt; "inside {name} 1: {count} intervals broken")?;
-    eprintln!(rt; "inside {name} 1: {micros} us")?;
+    println!(rt; "{name}: {count} intervals broken")?;
+    eprintln!(rt; "{name}: {micros} us")?;
     Ok(())
 }
 
 // Four wide, four apart and three inside over six layers.
-fn time_rules(rt: &HostRuntime, boxes: &[Rect]) -> anyhow::Result<()>
-    requires { AllByRecursion (Within (2 ^ 40)) boxes.now }
-{
+fn time_rules(rt: &HostRuntime, boxes: &Boxes<'_>) -> anyhow::Result<()> {
     let zero = sweep_layer(rt, boxes, 0)?;
     let one = sweep_layer(rt, boxes, 1)?;
     let two = sweep_layer(rt, boxes, 2)?;
     let three = sweep_layer(rt, boxes, 3)?;
     let four = sweep_layer(rt, boxes, 4)?;
     let five = sweep_layer(rt, boxes, 5)?;
-    time_wide(rt, 0, &zero, 4)?;
-    time_wide(rt, 1, &one, 2)?;
-    time_wide(rt, 3, &three, 3)?;
-    time_wide(rt, 5, &five, 3)?;
-    time_apart(rt, 0, &zero, 3)?;
-    time_apart(rt, 1, &one, 3)?;
-    time_apart(rt, 3, &three, 3)?;
-    time_apart(rt, 5, &five, 3)?;
-    time_inside(rt, "2 3", &two, &three)?;
-    time_inside(rt, "4 3", &four, &three)?;
-    time_inside(rt, "4 5", &four, &five)?;
-    Ok(())
+    let heap = rt.alloc();
+    time_rule(rt, "wide 0 4", || narrow(heap, &zero, 4))?;
+    time_rule(rt, "wide 1 2", || narrow(heap, &one, 2))?;
+    time_rule(rt, "wide 3 3", || narrow(heap, &three, 3))?;
+    time_rule(rt, "wide 5 3", || narrow(heap, &five, 3))?;
+    time_rule(rt, "apart 0 3", || close(heap, &zero, 3))?;
+    time_rule(rt, "apart 1 3", || close(heap, &one, 3))?;
+    time_rule(rt, "apart 3 3", || close(heap, &three, 3))?;
+    time_rule(rt, "apart 5 3", || close(heap, &five, 3))?;
+    time_rule(rt, "inside 2 3 1", || shallow(heap, &two, &three, 1))?;
+    time_rule(rt, "inside 4 3 1", || shallow(heap, &four, &three, 1))?;
+    time_rule(rt, "inside 4 5 1", || shallow(heap, &four, &five, 1))
 }
 
 // All layers carry, and nothing joins them.
@@ -160,13 +130,15 @@ fn all_carry(heap: Global) -> Result<Process, AllocError> {
     })
 }
 
-fn time_nets(rt: &HostRuntime, boxes: &[Rect]) -> anyhow::Result<()>
-    requires { AllByRecursion (Within (2 ^ 40)) boxes.now }
-{
+fn time_nets(rt: &HostRuntime, boxes: Boxes<'_>) -> anyhow::Result<()> {
     let process = all_carry(rt.alloc())?;
+    let mask = Mask {
+        boxes,
+        process: &process,
+    };
     let start = Instant::now(rt)?;
-    let tiles = wire_tiles(rt.alloc(), boxes, &process)?;
-    let groups = connect(rt.alloc(), boxes, &process, tiles.as_slice())?;
+    let tiles = mask.wire_tiles(rt.alloc())?;
+    let groups = mask.connect(rt.alloc(), &tiles)?;
     let micros = start.elapsed(rt)?.as_micros();
     drop(groups);
     let count = tiles.len();
@@ -176,20 +148,21 @@ fn time_nets(rt: &HostRuntime, boxes: &[Rect]) -> anyhow::Result<()>
 }
 
 fn main(rt: HostRuntime) -> anyhow::Result<ExitCode> {
-    let mut boxes = Vec::new(rt.alloc());
+    let mut rects = Vec::new(rt.alloc());
     let start = Instant::now(&rt)?;
     for line in BufReader::new(rt.alloc(), rt.stdin())?.lines(rt.alloc()) {
         let text = line?;
-        if !add_box(&mut boxes, text.as_str())? {
+        if !add_box(&mut rects, &text)? {
             eprintln!(rt; "bench: each line is LAYER X Y ACROSS DOWN, in numbers up to {FAR}")?;
             return Ok(ExitCode::FAILURE);
         }
     }
     let micros = start.elapsed(&rt)?.as_micros();
-    let count = boxes.len();
+    let count = rects.len();
     println!(rt; "{count} boxes")?;
     eprintln!(rt; "read: {micros} us")?;
-    time_rules(&rt, boxes.as_slice())?;
-    time_nets(&rt, boxes.as_slice())?;
+    let boxes = Boxes { rects: &rects };
+    time_rules(&rt, &boxes)?;
+    time_nets(&rt, boxes)?;
     Ok(ExitCode::SUCCESS)
 }

@@ -14,8 +14,7 @@ fn dilate(heap: Global, a: &Region, by: u64) -> Result<Region, AllocError>
     ensures { IfOk result (λ v. (m : ℕ) → m + by < 2 ^ 64 → Settled m (covers a.now.bands.items) → Dilated by (covers a.now.bands.items) (covers v.bands.items)) }
 {
     let wide = a.widen_right(heap, by)?;
-    let out = wide.widen_down(heap, by)?;
-    Ok(out)
+    wide.widen_down(heap, by)
 }
 
 // Moved to the left and up.
@@ -23,8 +22,7 @@ fn shift_back(heap: Global, a: &Region, by: u64) -> Result<Region, AllocError>
     ensures { IfOk result (λ v. (x y : ℕ) → covers v.bands.items x y ≡ covers a.now.bands.items (x + by) (y + by)) }
 {
     let left = a.shift_left(heap, by)?;
-    let out = left.shift_up(heap, by)?;
-    Ok(out)
+    left.shift_up(heap, by)
 }
 
 // All squares no farther than `by` across and down: twice as far forward, and moved back.
@@ -33,8 +31,7 @@ pub fn grow(heap: Global, a: &Region, by: u64) -> Result<Region, AllocError>
     ensures { IfOk result (λ v. Exactly (2 * by) (covers a.now.bands.items) (near by (covers a.now.bands.items)) (covers v.bands.items)) }
 {
     let wide = dilate(heap, a, 2 * by)?;
-    let out = shift_back(heap, &wide, by)?;
-    Ok(out)
+    shift_back(heap, &wide, by)
 }
 
 // The upper left squares of the blocks of `by` + 1 squares that lie all within the region.
@@ -44,8 +41,7 @@ fn corners(heap: Global, a: &Region, by: u64) -> Result<Region, AllocError>
     let outside = a.complement(heap)?;
     let reached = dilate(heap, &outside, by)?;
     let ends = reached.complement(heap)?;
-    let out = shift_back(heap, &ends, by)?;
-    Ok(out)
+    shift_back(heap, &ends, by)
 }
 
 // The squares that lie in a block of `side` by `side` squares of the region.
@@ -54,8 +50,7 @@ pub fn open(heap: Global, a: &Region, side: u64) -> Result<Region, AllocError>
     ensures { IfOk result (λ v. Exactly (2 * side) (covers a.now.bands.items) (in_a_block side (covers a.now.bands.items)) (covers v.bands.items)) }
 {
     let starts = corners(heap, a, side - 1)?;
-    let out = dilate(heap, &starts, side - 1)?;
-    Ok(out)
+    dilate(heap, &starts, side - 1)
 }
 
 // The squares around which a block of `side` by `side` squares is free of the region, also one that reaches over the
@@ -67,6 +62,5 @@ pub fn free(heap: Global, a: &Region, side: u64) -> Result<Region, AllocError>
     let reached = dilate(heap, a, side - 1)?;
     let ends = reached.complement(heap)?;
     let blocks = dilate(heap, &ends, side - 1)?;
-    let out = shift_back(heap, &blocks, side - 1)?;
-    Ok(out)
+    shift_back(heap, &blocks, side - 1)
 }

@@ -1,5 +1,5 @@
 -- The rules of a deck as they are held, the layers that they name, and the regions that they come to. Assumes nothing: these are definitions.
-use Rattle.std.specs.Prelude.{◌≡◌, ℕ, ◌<◌, Bool, true, List, Ok, Err, vec_items, Result, Vec, slice_index_or}
+use Rattle.std.specs.Prelude.{◌≡◌, ℕ, ◌<◌, Bool, true, List, length, Ok, Err, vec_items, Result, Vec, slice_index_or}
 use Rattle.std.specs.declared.alloc.Global.{Global}
 use Rattle.std.specs.List.{AllByRecursion}
 use Rattle.region.specs.declared.regions.Region.{Region}
@@ -28,7 +28,7 @@ DeckRead ts (Err fault.Memory) = Unit {0}
 
 -- the layers that a rule names are marked
 abbrev pub Marks : List Bool → Rule → Type 0
-Marks wanted r = (i l : ℕ) → i < r.len → slice_index_or r.terms i (Layer 0) ≡ Layer l → among wanted l ≡ true
+Marks wanted r = (i l : ℕ) → i < length r.terms.items → slice_index_or r.terms.items i (Layer 0) ≡ Layer l → among wanted l ≡ true
 
 abbrev pub AllMarked : List Rule → List Bool → Type 0
 AllMarked rs wanted = AllByRecursion (Marks wanted) rs

@@ -1,13 +1,11 @@
 // The rules of a deck, read from the numbers that its lines say.
-ghost use Rattle.std.specs.Prelude.{◌≡◌, map, vec_len};
-ghost use Rattle.std.specs.List.{AllByRecursion};
-ghost use Rattle.rules.specs.Values.{Sound};
+ghost use Rattle.std.specs.Prelude.{map};
 ghost use Rattle.rule_text.specs.Rules.{rule_of};
 ghost use Rattle.deck.specs.Readings.{DeckRead, AllMarked};
 
 use super::fault::DeckFault;
 use rule_text::rule::RuleText;
-use rules::judges::mark_layers;
+use rules::judges::LAYERS;
 use rules::read::read_rule;
 use rules::rule::Rule;
 use std::alloc::Global;
@@ -18,7 +16,7 @@ pub(crate) fn read_deck(heap: Global, deck: &[RuleText]) -> Result<Vec<Rule>, De
 {
     let mut rules = Vec::new(heap);
     for (place, text) in deck.iter().enumerate() {
-        match read_rule(text.regions.as_slice(), text.kind.number(), text.number) {
+        match read_rule(&text.regions, text.kind.number(), text.number) {
             Ok(rule) => rules.push(rule)?,
             Err(refusal) => return Err(DeckFault::Rule(place, refusal)),
         }
@@ -27,12 +25,10 @@ pub(crate) fn read_deck(heap: Global, deck: &[RuleText]) -> Result<Vec<Rule>, De
 }
 
 // Marks the layers that the rules name.
-pub(crate) fn mark_deck(rules: &[Rule], wanted: &mut Vec<bool>)
-    requires sound { AllByRecursion Sound rules.now }
-    requires long { vec_len wanted.old ≡ 256 }
-    ensures { AllMarked rules.now wanted.new.items }
+pub(crate) fn mark_deck(rules: &[Rule], wanted: &mut [bool; LAYERS])
+    ensures { AllMarked rules.now wanted.new }
 {
     for rule in rules {
-        mark_layers(rule, wanted);
+        rule.mark_layers(wanted);
     }
 }

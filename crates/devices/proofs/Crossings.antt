@@ -31,9 +31,7 @@ pub crossed-from :
 crossed-from k qs c h e channel wires link wired = record {
   laid = record {
     channels = link.ordered;
-    channel_roots = link.long;
     wires = wired.tiled.ordered;
-    wire_roots = wired.long;
     channel = channel-bounded k qs (vec_items c.channel.bands) h channel;
     wire = bounded_from (vec_items c.wire.bands) (wire k (covered qs) k.crossed) wires (far-wire k qs k.crossed h);
   };

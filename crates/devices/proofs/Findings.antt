@@ -1,22 +1,20 @@
 -- Which refusal comes first, and what the entry then says.
-use Rattle.std.proofs.Common.{◌≡◌, ℕ, suc, ◌+◌, ◌*◌, ◌/◌, ◌<◌, ◌≤◌, true, false, List, length, Err, sym, refl, subst, inl, inr, arith}
+use Rattle.std.proofs.Common.{◌≡◌, ℕ, suc, ◌+◌, ◌*◌, ◌/◌, ◌<◌, ◌≤◌, true, false, List, length, Ok, Err, sym, refl, subst, inl, inr, arith}
 use Rattle.std.proofs.lemmas.Bool.{ne_eqb, cases_order}
 use Rattle.layout.specs.Layout.{Drawing}
 use Rattle.layout.specs.Numbers.{layout_in, layout_refusal}
 use Rattle.layout.specs.Checks.{TurnedAway}
-use Rattle.layout.specs.Written.{Written as Boxed}
 use Rattle.layout.specs.declared.refusal.Refusal.{Refusal}
 use Rattle.layout.specs.declared.refusal.Refusal.TheVariants.{Nodes, Number, Node, Boxes, Regions, Region, Technology as OfTechnology, Spots, Room, Circuit, Text}
-use Rattle.layout.specs.declared.refusal.Fault.{Fault}
-use Rattle.layout.specs.declared.refusal.Fault.TheVariants.{Refused as Turned, Memory as Empty}
+use Rattle.layout.specs.declared.refusal.Fault.TheVariants.{Refused, Memory}
 use Rattle.nets.specs.Nets.{Technology}
 use Rattle.nets.specs.Technologies.{technology_in, technology_ok}
 use Rattle.devices.specs.declared.reading.Device.{Device}
-use Rattle.devices.specs.declared.entry.Found.TheVariants.{Odd, Refused, Memory}
+use Rattle.devices.specs.declared.reading.Found.TheVariants.{Odd}
 use Rattle.devices.specs.Channels.{spot_of, Under, Earlier}
 use Rattle.devices.specs.Ends.{DeviceAt, OddAt}
 use Rattle.devices.specs.Readings.{device_at, device_spot, terminal_spot, Enumerated, Written}
-use Rattle.devices.specs.Findings.{place_at, Listed, Crowded, devices_refusal, ReadInto, Says, SaysSo}
+use Rattle.devices.specs.Findings.{place_at, Listed, Crowded, devices_refusal, ReadInto, Says}
 use Rattle.devices.proofs.Channels.{unders-back, ends-move}
 
 module _ (k : Technology) (d : Drawing) (vs : List Device) (all : Enumerated k d vs) where
@@ -68,7 +66,7 @@ module _ (xs technology room : List ℕ) where
   unfolding devices_refusal
   layout-first n h = rw (h, ne_eqb (suc n) 0 (λ e. omega arith))
 
-  pub turned-away : (e : Refusal) → TurnedAway xs e → Says xs technology room (Refused e) room
+  pub turned-away : (e : Refusal) → TurnedAway xs e → Says xs technology room (Err (Refused e)) room
   turned-away (Nodes p) h = ((layout-first 0 h.0, h), refl)
   turned-away (Number p) h = ((layout-first 1 h.0, h), refl)
   turned-away (Node p) h = ((layout-first 1 h.0, h), refl)
@@ -82,7 +80,7 @@ module _ (xs technology room : List ℕ) where
   turned-away (Text p) h = absurd h
 
   module _ (taken : layout_refusal xs ≡ 0) where
-    pub technology-away : technology_ok technology ≡ false → Says xs technology room (Refused (OfTechnology (length technology))) room
+    pub technology-away : technology_ok technology ≡ false → Says xs technology room (Err (Refused (OfTechnology (length technology)))) room
     unfolding devices_refusal
     technology-away h = ((rw (taken, h), refl), refl)
 
@@ -91,23 +89,19 @@ module _ (xs technology room : List ℕ) where
       unfolding devices_refusal
       none-away = rw (taken, ok)
 
-      pub no-memory : Says xs technology room Memory room
+      pub no-memory : Says xs technology room (Err Memory) room
       no-memory = (none-away, refl)
-
-      pub boxes-away : (f : Fault) → Boxed xs (Err f) → SaysSo xs technology room (Err f) room
-      boxes-away (Turned e) h = turned-away e h
-      boxes-away Empty h = (none-away, refl)
 
       module _ (k : Technology) (d : Drawing) (same : k ≡ technology_in technology) (drawn : (l x y : ℕ) → d l x y ≡ layout_in xs l x y) where
         -- what holds of the boxes holds of the layout
         carried : (P : Technology → Drawing → Type 0) → P k d → P (technology_in technology) (layout_in xs)
         carried P h = subst (P (technology_in technology)) (λ i l x y. drawn l x y i) (subst (λ v. P v d) same h)
 
-        pub odd-shown : (x y : ℕ) → OddAt k d (spot_of k x y) → Says xs technology room (Odd x y) room
+        pub odd-shown : (x y : ℕ) → OddAt k d (spot_of k x y) → Says xs technology room (Ok (Odd x y)) room
         odd-shown x y h = (none-away, carried (λ v e. OddAt v e (spot_of v x y)) h, refl)
 
         module _ (vs : List Device) (all : Enumerated k d vs) where
-          pub too-little : length room / 6 < length vs → Says xs technology room (Refused (Room (length room))) room
+          pub too-little : length room / 6 < length vs → Says xs technology room (Err (Refused (Room (length room)))) room
           too-little h = ((none-away, refl, carried (λ v e. Crowded v e room) (crowded k d vs all room h)), refl)
 
           pub read_all : (room₁ : List ℕ) → length vs ≤ length room / 6 → Written vs (length vs) room room₁ → ReadInto xs technology room (length vs) room₁

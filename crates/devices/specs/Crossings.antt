@@ -1,5 +1,5 @@
 -- What the contracts on a crossing say of its parts. Assumes nothing: these are definitions.
-use Rattle.std.specs.Prelude.{◌≡◌, ℕ, List, length, vec_items}
+use Rattle.std.specs.Prelude.{◌≡◌, ℕ, List, vec_items}
 use Rattle.tiles.specs.declared.tile.Tile.{Tile}
 use Rattle.tiles.specs.Tiles.{Ordered}
 use Rattle.tiles.specs.Cuts.{Bounded}
@@ -12,12 +12,10 @@ use Rattle.nets.specs.Wires.{Shows}
 use Rattle.devices.specs.Pieces.{gated, Wired, Gated}
 use Rattle.devices.specs.Borders.{Added, Flanked, Fringed}
 
--- tiles in order, each with its first tile, and regions that reach not far
+-- tiles in order, and regions that reach not far
 pub record Laid (c : Crossing) : Type 0 where
   pub channels : Ordered (vec_items c.channels.tiles)
-  pub channel_roots : length (vec_items c.channels.roots) ≡ length (vec_items c.channels.tiles)
   pub wires : Ordered (vec_items c.wires.tiles)
-  pub wire_roots : length (vec_items c.wires.roots) ≡ length (vec_items c.wires.tiles)
   pub channel : Bounded (vec_items c.channel.bands)
   pub wire : Bounded (vec_items c.wire.bands)
 

@@ -6,11 +6,11 @@ use Rattle.layout.specs.Checks.{TurnedAway}
 use Rattle.layout.specs.declared.refusal.Refusal.{Refusal}
 use Rattle.layout.specs.declared.refusal.Refusal.TheVariants.{Nodes, Number, Node, Boxes, Regions, Region, Technology as OfTechnology, Spots, Room, Circuit, Text}
 use Rattle.layout.specs.declared.refusal.Fault.{Fault}
-use Rattle.layout.specs.declared.refusal.Fault.TheVariants.{Refused as Turned, Memory as Empty}
+use Rattle.layout.specs.declared.refusal.Fault.TheVariants.{Refused, Memory}
 use Rattle.nets.specs.Nets.{Technology, Spot, on}
 use Rattle.nets.specs.Technologies.{technology_in, technology_ok}
-use Rattle.devices.specs.declared.entry.Found.{Found}
-use Rattle.devices.specs.declared.entry.Found.TheVariants.{Devices, Odd, Refused, Memory}
+use Rattle.devices.specs.declared.reading.Found.{Found}
+use Rattle.devices.specs.declared.reading.Found.TheVariants.{Devices, Odd}
 use Rattle.devices.specs.Channels.{channel, spot_of, Under, Earlier}
 use Rattle.devices.specs.Ends.{Ends, DeviceAt, OddAt}
 
@@ -61,15 +61,9 @@ pub record ReadInto (xs technology room : List ℕ) (n : ℕ) (room₁ : List �
   pub beyond : (i : ℕ) → 6 * n ≤ i → slice_index room₁ i ≡ slice_index room i
 
 -- all devices are read; or an odd channel is shown, or the arguments are turned away, or there is no memory, with the room as it was
-abbrev pub Says : (xs technology room : List ℕ) → Found → (room₁ : List ℕ) → Type 0
-Says xs technology room (Devices n) room₁ = ReadInto xs technology room n room₁
-Says xs technology room (Odd x y) room₁ =
+abbrev pub Says : (xs technology room : List ℕ) → Result (Found ℕ) Fault → (room₁ : List ℕ) → Type 0
+Says xs technology room (Ok (Devices n)) room₁ = ReadInto xs technology room n room₁
+Says xs technology room (Ok (Odd x y)) room₁ =
     (devices_refusal xs technology ≡ 0) × OddAt (technology_in technology) (layout_in xs) (spot_of (technology_in technology) x y) × (room₁ ≡ room)
-Says xs technology room (Refused e) room₁ = RefusedAt xs technology room e × (room₁ ≡ room)
-Says xs technology room Memory room₁ = (devices_refusal xs technology ≡ 0) × (room₁ ≡ room)
-
--- the same of a result
-abbrev pub SaysSo : (xs technology room : List ℕ) → Result Found Fault → (room₁ : List ℕ) → Type 0
-SaysSo xs technology room (Ok f) room₁ = Says xs technology room f room₁
-SaysSo xs technology room (Err (Turned e)) room₁ = Says xs technology room (Refused e) room₁
-SaysSo xs technology room (Err Empty) room₁ = Says xs technology room Memory room₁
+Says xs technology room (Err (Refused e)) room₁ = RefusedAt xs technology room e × (room₁ ≡ room)
+Says xs technology room (Err Memory) room₁ = (devices_refusal xs technology ≡ 0) × (room₁ ≡ room)

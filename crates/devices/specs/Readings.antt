@@ -1,5 +1,6 @@
 -- Devices as they are read, one channel after another. Assumes nothing: these are definitions.
-use Rattle.std.specs.Prelude.{◌≡◌, ℕ, ◌+◌, ◌*◌, ◌<◌, ◌≤◌, true, ◌⊎◌, List, length, vec_items, slice_index, slice_index_or}
+use Rattle.std.specs.Prelude.{◌≡◌, ℕ, ◌+◌, ◌*◌, ◌<◌, ◌≤◌, true, ◌⊎◌, List, length, vec_items, Vec, slice_index, slice_index_or}
+use Rattle.std.specs.declared.alloc.Global.{Global}
 use Rattle.layout.specs.Layout.{Drawing}
 use Rattle.tiles.specs.declared.tile.Tile.{Tile}
 use Rattle.tiles.specs.Tiles.{tile_at}
@@ -8,8 +9,8 @@ use Rattle.devices.specs.declared.terminal.Terminal.{Terminal}
 use Rattle.devices.specs.declared.terminal.Terminals.{Terminals}
 use Rattle.devices.specs.declared.terminal.Terminals.TheVariants.{Isolated, One, Two, Many}
 use Rattle.devices.specs.declared.reading.Device.{Device}
-use Rattle.devices.specs.declared.reading.Reading.{Reading}
-use Rattle.devices.specs.declared.reading.Reading.TheVariants.{Devices, Odd}
+use Rattle.devices.specs.declared.reading.Found.{Found}
+use Rattle.devices.specs.declared.reading.Found.TheVariants.{Devices, Odd}
 use Rattle.devices.specs.Channels.{channel, spot_of, Under, Earlier}
 use Rattle.devices.specs.Ends.{Side, DeviceAt, OddAt}
 use Rattle.devices.specs.Pieces.{root_of, Gated}
@@ -54,7 +55,7 @@ pub record Enumerated (k : Technology) (d : Drawing) (vs : List Device) : Type 0
   pub all : (a : Spot) → on (channel k d) a ≡ true → (i : ℕ) × (i < length vs) × Under k d (device_spot k vs i) a
 
 -- all devices, or the first odd channel
-abbrev pub ComesTo : Technology → Drawing → Reading → Type 0
+abbrev pub ComesTo : Technology → Drawing → Found (Vec Device Global) → Type 0
 ComesTo k d (Devices v) = Enumerated k d (vec_items v)
 ComesTo k d (Odd x y) = OddAt k d (spot_of k x y)
 

@@ -35,23 +35,19 @@ fn meeting_region(
     match direction {
         Direction::Right => {
             let moved = wire.shift_left(heap, 1)?;
-            let both = channel.combine(heap, Op::And, &moved)?;
-            Ok(both)
+            channel.combine(heap, Op::And, &moved)
         }
         Direction::Left => {
             let moved = channel.shift_left(heap, 1)?;
-            let both = moved.combine(heap, Op::And, wire)?;
-            Ok(both)
+            moved.combine(heap, Op::And, wire)
         }
         Direction::Below => {
             let moved = wire.shift_up(heap, 1)?;
-            let both = channel.combine(heap, Op::And, &moved)?;
-            Ok(both)
+            channel.combine(heap, Op::And, &moved)
         }
         Direction::Above => {
             let moved = channel.shift_up(heap, 1)?;
-            let both = moved.combine(heap, Op::And, wire)?;
-            Ok(both)
+            moved.combine(heap, Op::And, wire)
         }
     }
 }
@@ -94,8 +90,7 @@ fn add_side(
     let region = meeting_region(heap, &crossing.channel, &crossing.wire, direction)?;
     let mut meetings = Vec::new(heap);
     add_region(&mut meetings, crossing.layer, &region)?;
-    add_borders(borders, crossing, meetings.as_slice(), direction)?;
-    Ok(())
+    add_borders(borders, crossing, &meetings, direction)
 }
 
 // The borders in all four directions.

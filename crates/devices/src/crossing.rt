@@ -1,15 +1,12 @@
 // Channels and wire of the crossed layer.
-ghost use Rattle.std.specs.Prelude.{◌^◌, IfOk};
-ghost use Rattle.std.specs.List.{AllByRecursion};
-ghost use Rattle.layout.specs.Rects.{Within, covered};
+ghost use Rattle.std.specs.Prelude.{IfOk};
+ghost use Rattle.layout.specs.Rects.{covered};
 ghost use Rattle.nets.specs.Processes.{technology_of};
 ghost use Rattle.devices.specs.Crossings.{Crossed};
 
 use crate::channel::channel_region;
-use crate::piece::{Pieces, link_region, wire_pieces};
-use layout::rect::Rect;
-use nets::process::Process;
-use nets::wire::wire_region;
+use crate::piece::Pieces;
+use nets::mask::Mask;
 use region::regions::Region;
 use std::alloc::{AllocError, Global};
 
@@ -23,21 +20,22 @@ pub struct Crossing {
     pub wires: Pieces,
 }
 
-// The channels and the wire of the crossed layer.
-pub fn lay_crossing(heap: Global, boxes: &[Rect], process: &Process) -> Result<Crossing, AllocError>
-    requires { AllByRecursion (Within (2 ^ 40)) boxes.now }
-    ensures { IfOk result (λ c. Crossed (technology_of process.now) (covered boxes.now) c) }
-{
-    let layer = process.crossed;
-    let channel = channel_region(heap, boxes, process)?;
-    let wire = wire_region(heap, boxes, process, layer)?;
-    let channels = link_region(heap, layer, &channel)?;
-    let wires = wire_pieces(heap, boxes, process)?;
-    Ok(Crossing {
-        layer,
-        channel,
-        wire,
-        channels,
-        wires,
-    })
+impl Crossing {
+    // The channels and the wire of the crossed layer.
+    pub fn lay(heap: Global, mask: &Mask<'_, '_>) -> Result<Crossing, AllocError>
+        ensures { IfOk result (λ c. Crossed (technology_of mask.now.process.now) (covered mask.now.boxes.rects.now) c) }
+    {
+        let layer = mask.process.crossed;
+        let channel = channel_region(heap, mask)?;
+        let wire = mask.wire_region(heap, layer)?;
+        let channels = Pieces::of_region(heap, layer, &channel)?;
+        let wires = Pieces::of_wire(heap, mask)?;
+        Ok(Crossing {
+            layer,
+            channel,
+            wire,
+            channels,
+            wires,
+        })
+    }
 }

@@ -18,9 +18,10 @@ pub struct Device {
 }
 
 /// All devices of a layout, or a channel that is none.
-#[derive(Drop)]
-pub enum Reading {
-    Devices(Vec<Device>),
+#[derive(Clone, Copy, Debug, PartialEq, Drop)]
+pub enum Found<T> {
+    Devices(T),
+    /// The column and the row of the first such channel.
     Odd(u64, u64),
 }
 
@@ -29,9 +30,8 @@ pub fn read_devices(
     heap: Global,
     channels: &Pieces,
     terminals: &[Terminals],
-) -> Result<Reading, AllocError>
-    requires roots { length channels.now.roots.items ≡ length channels.now.tiles.items }
-    requires terminals { length terminals.now ≡ length channels.now.tiles.items }
+) -> Result<Found<Vec<Device>>, AllocError>
+    requires { length terminals.now ≡ length channels.now.tiles.items }
     ensures { IfOk result (λ v. (k : Technology) (d : Drawing) → Known k d channels.now.tiles.items channels.now.roots.items terminals.now → ComesTo k d v) }
 {
     let mut devices = Vec::new(heap);
@@ -41,12 +41,12 @@ pub fn read_devices(
             let x = tile.left;
             let y = tile.top;
             let Some((one, other)) = terminals[i].ends() else {
-                return Ok(Reading::Odd(x, y));
+                return Ok(Found::Odd(x, y));
             };
             devices.push(Device { x, y, one, other })?;
         }
     }
-    Ok(Reading::Devices(devices))
+    Ok(Found::Devices(devices))
 }
 
 // Writes a spot.

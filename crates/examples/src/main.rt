@@ -1,7 +1,7 @@
 // examples: prints the worked examples, which are held to the file stdout beside src/.
 #![tactic(auto)]
 
-use nets::entry::Numbering;
+use layout::refusal::Fault;
 use nets::nets;
 use rules::judge::Verdict;
 use rules::judges::judge;
@@ -49,16 +49,11 @@ const OVER: [u64; 30] = [
 // Two layers carry, and layer 2 joins them; no layer is crossed.
 const JOINED: [u64; 9] = [2, 1, 1, 9, 1, 1, 2, 0, 1];
 
-fn show(rt: &HostRuntime, name: &str, verdict: Verdict) -> anyhow::Result<()> {
+fn show(rt: &HostRuntime, name: &str, verdict: Result<Verdict, Fault>) -> anyhow::Result<()> {
     match verdict {
-        Verdict::Clean => println!(rt; "{name}: clean")?,
-        Verdict::Broken(x, y) => println!(rt; "{name}: {x} {y}")?,
-        Verdict::Turned(refusal) => {
-            let number = refusal.number();
-            let place = refusal.place();
-            println!(rt; "{name}: refusal {number} at {place}")?;
-        }
-        Verdict::Memory => println!(rt; "{name}: no memory")?,
+        Ok(Verdict::Clean) => println!(rt; "{name}: clean")?,
+        Ok(Verdict::Broken(x, y)) => println!(rt; "{name}: {x} {y}")?,
+        Err(fault) => println!(rt; "{name}: {fault}")?,
     }
     Ok(())
 }
@@ -119,20 +114,9 @@ fn show_nets(
     spots: &[u64],
 ) -> anyhow::Result<()> {
     let mut numbers = vec![in rt.alloc(); 0; spots.len() / 3]?;
-    match nets(
-        rt.alloc(),
-        layout,
-        technology,
-        spots,
-        numbers.as_mut_slice(),
-    ) {
-        Numbering::Numbered => println!(rt; "{name}: {numbers:?}")?,
-        Numbering::Refused(refusal) => {
-            let number = refusal.number();
-            let place = refusal.place();
-            println!(rt; "{name}: refusal {number} at {place}")?;
-        }
-        Numbering::Memory => println!(rt; "{name}: no memory")?,
+    match nets(rt.alloc(), layout, technology, spots, &mut numbers) {
+        Ok(()) => println!(rt; "{name}: {numbers:?}")?,
+        Err(fault) => println!(rt; "{name}: {fault}")?,
     }
     Ok(())
 }

@@ -67,13 +67,13 @@ module _ (f : ℕ → ℕ) (item : ℕ → Option ℕ) where
       record { none = λ k h. (all k h).0; some = λ k a h. (all k h).1 a }
 
 -- the loop over places: the first i are numbered, count is the largest number, and seen has the number of each root that came
-pub record Going (f : ℕ → ℕ) (item : ℕ → Option ℕ) (i : ℕ) (seen : List ℕ) (count : ℕ) (ns : List ℕ) : Type 0 where
+pub record Going (f : ℕ → ℕ) (item : ℕ → Option ℕ) (i : ℕ) (seen : List (Option ℕ)) (count : ℕ) (ns : List ℕ) : Type 0 where
   pub numbered : Numbered f item i ns
   pub largest : count ≡ highest ns i
   pub few : count ≤ i
-  pub each : (r : ℕ) → ((get_or seen r 0 ≡ 0) × First f item i r) ⊎ ((0 < get_or seen r 0) × (get_or seen r 0 ≤ count) × Earlier f item ns i r (get_or seen r 0))
+  pub each : (r : ℕ) → ((get_or seen r None ≡ None) × First f item i r) ⊎ ((n : ℕ) × (get_or seen r None ≡ Some n) × (n ≤ count) × Earlier f item ns i r n)
 
-pub going-none : (f : ℕ → ℕ) (item : ℕ → Option ℕ) (seen ns : List ℕ) → ((r : ℕ) → get_or seen r 0 ≡ 0) → Going f item 0 seen 0 ns
+pub going-none : (f : ℕ → ℕ) (item : ℕ → Option ℕ) (seen : List (Option ℕ)) (ns : List ℕ) → ((r : ℕ) → get_or seen r None ≡ None) → Going f item 0 seen 0 ns
 unfolding highest
 going-none f item seen ns fresh = record {
   numbered = record { none = λ k h. absurd (omega arith); some = λ k a h. absurd (omega arith) };
@@ -88,7 +88,7 @@ some_apart o a p q = let z : ◌≡◌ {A = ℕ} 0 1 = cc in absurd (omega arith
 same_some : (o : Option ℕ) (a b : ℕ) → o ≡ Some a → o ≡ Some b → a ≡ b
 same_some o a b p q = cc
 
-module _ (f : ℕ → ℕ) (item : ℕ → Option ℕ) (i : ℕ) (seen : List ℕ) (count : ℕ) (ns : List ℕ) (here : i < length ns) (old : Going f item i seen count ns) where
+module _ (f : ℕ → ℕ) (item : ℕ → Option ℕ) (i : ℕ) (seen : List (Option ℕ)) (count : ℕ) (ns : List ℕ) (here : i < length ns) (old : Going f item i seen count ns) where
   pub going-empty : item i ≡ None → Going f item (i + 1) seen count (set ns i 0)
   unfolding Is
   going-empty e = record {
@@ -97,16 +97,16 @@ module _ (f : ℕ → ℕ) (item : ℕ → Option ℕ) (i : ℕ) (seen : List �
     few = omega (arith, old.few);
     each = λ r. elim (old.each r) [
       | inl p ↦ inl (p.0, first_more f item i r p.1 (λ b q. some_apart _ b e q))
-      | inr p ↦ inr (p.0, p.1, earlier_more f item (set ns i 0) i r _ (earlier-set f item ns i i 0 r _ (omega arith) p.2))
+      | inr p ↦ inr (p.0, p.1, p.2, earlier_more f item (set ns i 0) i r _ (earlier-set f item ns i i 0 r _ (omega arith) p.3))
     ];
   }
 
   -- an item whose root came before
-  pub going-again : (a n : ℕ) → item i ≡ Some a → n ≡ get_or seen (f a) 0 → (n ≡ 0 → ⊥) → Going f item (i + 1) seen count (set ns i n)
+  pub going-again : (a n : ℕ) → item i ≡ Some a → get_or seen (f a) None ≡ Some n → Going f item (i + 1) seen count (set ns i n)
   unfolding Is
-  going-again a n e is some =
+  going-again a n e is =
       let came : (n ≤ count) × Earlier f item ns i (f a) n =
-      elim (old.each (f a)) [ inl p ↦ absurd (some (is ∙ p.0)) | inr p ↦ rw is (p.1, p.2) ] in
+      elim (old.each (f a)) [ inl p ↦ some_apart _ n p.0 is | inr p ↦ let s = same_some _ p.0 n p.1 is in rw (← s) (p.2, p.3) ] in
       record {
         numbered = numbered_more f item ns i n old.numbered (
           λ q. some_apart _ a q e,
@@ -115,16 +115,16 @@ module _ (f : ℕ → ℕ) (item : ℕ → Option ℕ) (i : ℕ) (seen : List �
         largest = old.largest ∙ sym (highest-old ns i n here (omega (arith, came.0, old.largest)));
         few = omega (arith, old.few);
         each = λ r. elim (old.each r) [
-          | inl p ↦ inl (p.0, first_more f item i r p.1 (λ b q w. some (is ∙ (ap (λ k. get_or seen k 0) (ap f (same_some _ a b e q) ∙ w) ∙ p.0))))
-          | inr p ↦ inr (p.0, p.1, earlier_more f item (set ns i n) i r _ (earlier-set f item ns i i n r _ (omega arith) p.2))
+          | inl p ↦ inl (p.0, first_more f item i r p.1 (λ b q w. some_apart _ n (ap (λ k. get_or seen k None) (ap f (same_some _ a b e q) ∙ w) ∙ p.0) is))
+          | inr p ↦ inr (p.0, p.1, p.2, earlier_more f item (set ns i n) i r _ (earlier-set f item ns i i n r _ (omega arith) p.3))
         ];
       }
 
   -- an item whose root is new
-  pub going-new : (a n : ℕ) → item i ≡ Some a → f a < length seen → get_or seen (f a) 0 ≡ 0 → n ≡ count + 1 → Going f item (i + 1) (set seen (f a) n) n (set ns i n)
+  pub going-new : (a n : ℕ) → item i ≡ Some a → f a < length seen → get_or seen (f a) None ≡ None → n ≡ count + 1 → Going f item (i + 1) (set seen (f a) (Some n)) n (set ns i n)
   unfolding Is
   going-new a n e room none is =
-      let first : First f item i (f a) = elim (old.each (f a)) [ inl p ↦ p.1 | inr p ↦ absurd (omega (arith, p.0)) ] in
+      let first : First f item i (f a) = elim (old.each (f a)) [ inl p ↦ p.1 | inr p ↦ some_apart _ p.0 none p.1 ] in
       record {
         numbered = numbered_more f item ns i n old.numbered (
           λ q. some_apart _ a q e,
@@ -136,24 +136,24 @@ module _ (f : ℕ → ℕ) (item : ℕ → Option ℕ) (i : ℕ) (seen : List �
         largest = sym (highest-new ns i n here (omega (arith, old.largest)));
         few = omega (arith, old.few);
         each = λ r. elim (cases_eq r (f a)) [
-          | inl w ↦ inr (rw (w, get_or-set_same seen (f a) n 0 room)
-              (omega arith, omega arith, record { place = i; what = a; before = omega arith; here = e; same = refl; number = get_or-set_same ns i n 0 here }))
-          | inr w ↦ rw (get_or-set_other seen (f a) r n 0 w) (elim (old.each r) [
+          | inl w ↦ inr (rw (w, get_or-set_same seen (f a) (Some n) None room)
+              (n, refl, omega arith, record { place = i; what = a; before = omega arith; here = e; same = refl; number = get_or-set_same ns i n 0 here }))
+          | inr w ↦ rw (get_or-set_other seen (f a) r (Some n) None w) (elim (old.each r) [
             | inl p ↦ inl (p.0, first_more f item i r p.1 (λ b q v. w (sym v ∙ ap f (same_some _ b a q e))))
-            | inr p ↦ inr (p.0, omega (arith, p.1), earlier_more f item (set ns i n) i r _ (earlier-set f item ns i i n r _ (omega arith) p.2))
+            | inr p ↦ inr (p.0, p.1, omega (arith, p.2), earlier_more f item (set ns i n) i r _ (earlier-set f item ns i i n r _ (omega arith) p.3))
           ])
         ];
       }
 
   pub going-some :
-      (a root r : ℕ) (seen₁ : List ℕ) (count₁ : ℕ) → item i ≡ Some a → root ≡ f a → root < length seen →
+      (a root r : ℕ) (seen₁ : List (Option ℕ)) (count₁ : ℕ) → item i ≡ Some a → root ≡ f a → root < length seen →
       Given seen count root seen₁ count₁ r → Going f item (i + 1) seen₁ count₁ (set ns i r)
   going-some a root r seen₁ count₁ e is room (inl g) =
-      rw (g.2, g.3) (going-again a r e (g.1 ∙ ap (λ k. get_or seen k 0) is) (λ z. g.0 (sym g.1 ∙ z)))
+      rw (g.1, g.2) (going-again a r e (ap (λ k. get_or seen k None) (sym is) ∙ g.0))
   going-some a root r seen₁ count₁ e is room (inr g) =
-      rw (g.2, g.3, is) (going-new a r e (omega arith) (ap (λ k. get_or seen k 0) (sym is) ∙ g.0) g.1)
+      rw (g.2, g.3, is) (going-new a r e (omega arith) (ap (λ k. get_or seen k None) (sym is) ∙ g.0) g.1)
 
 -- a number given leaves as many roots
-pub given_length : (seen : List ℕ) (count root : ℕ) (seen₁ : List ℕ) (count₁ r : ℕ) → Given seen count root seen₁ count₁ r → length seen₁ ≡ length seen
-given_length seen count root seen₁ count₁ r (inl g) = ap length g.2
-given_length seen count root seen₁ count₁ r (inr g) = ap length g.2 ∙ length-set seen root r
+pub given_length : (seen : List (Option ℕ)) (count root : ℕ) (seen₁ : List (Option ℕ)) (count₁ r : ℕ) → Given seen count root seen₁ count₁ r → length seen₁ ≡ length seen
+given_length seen count root seen₁ count₁ r (inl g) = ap length g.1
+given_length seen count root seen₁ count₁ r (inr g) = ap length g.2 ∙ length-set seen root (Some r)

@@ -1,6 +1,9 @@
 -- When a layout is turned away, and when it is not. Assumes nothing.
-use Rattle.std.proofs.Common.{◌≡◌, ℕ, zero, suc, ◌+◌, ◌-◌, ◌*◌, ◌%◌, ◌<◌, ◌≤◌, Bool, true, false, ◌&&◌, eqb, leb, List, [], ◌∷◌, length, get_or, sym, refl, ap, ◌∙◌, inl, inr, arith}
+use Rattle.std.proofs.Common.{◌≡◌, ℕ, zero, suc, ◌+◌, ◌-◌, ◌*◌, ◌%◌, ◌<◌, ◌≤◌, Bool, true, false, ◌&&◌, eqb, leb, List, [], ◌∷◌, length, get_or, Some, None, Option, sym, refl, ap, ◌∙◌, inl, inr, arith}
 use Rattle.std.proofs.lemmas.Bool.{and_parts, and_from, and_left, and_right, cases_Bool, both_ways, leb-true, eqb-true, le-leb, lt-leb, eq-eqb}
+use Rattle.std.specs.List.{AllWithin, HoldsAt}
+use Rattle.std.specs.Option.{MatchOption}
+use Rattle.layout.specs.Checks.{FirstAbove, FirstLate}
 use Rattle.layout.specs.Limits.{max_boxes, max_nodes, max_number}
 use Rattle.layout.specs.Layout.{pick, nothing, drawn}
 use Rattle.layout.specs.Numbers.{node_at, sixes, all_at_most, earlier, boxes, few_boxes, layout_refusal, layout_in}
@@ -8,13 +11,18 @@ use Rattle.layout.specs.Nodes.{orderly}
 use Rattle.layout.specs.Pieces.{piece, Sound}
 use Rattle.layout.specs.Rects.{covered, rects}
 use Rattle.layout.proofs.Rects.{rects-draw}
-use Rattle.layout.proofs.Nodes.{at_most}
+use Rattle.layout.proofs.Reading.{at_most}
 use Rattle.layout.proofs.Pieces.{earlier-at, settle}
 
 pub all_from : (m : ℕ) (xs : List ℕ) → ((k : ℕ) → k < length xs → get_or xs k 0 ≤ m) → all_at_most m xs ≡ true
 unfolding all_at_most
 all_from m [] h = refl
 all_from m (x ∷ xs) h = and_from _ _ (le-leb x m (h 0 (omega arith))) (all_from m xs (λ k l. h (suc k) (omega arith)))
+
+-- what the first number above a limit says of all of them
+pub first_large : (m : ℕ) (xs : List ℕ) (r : Option ℕ) → MatchOption r (AllWithin (λ x. x ≤ m) xs 0 (length xs)) (λ i. (i < length xs) × HoldsAt (λ x. m < x) xs i × AllWithin (λ x. x ≤ m) xs 0 i) → MatchOption r (all_at_most m xs ≡ true) (FirstAbove m xs)
+first_large m xs None h = all_from m xs (λ k l. h k 0 (omega arith) l)
+first_large m xs (Some i) h = (h.0, h.1 0, λ k l. h.2 k 0 (omega arith) l)
 
 pub all_not : (m : ℕ) (xs : List ℕ) (p : ℕ) → m < get_or xs p 0 → all_at_most m xs ≡ false
 all_not m xs p h = elim (cases_Bool (all_at_most m xs)) [ inl e ↦ absurd (omega (arith, at_most m xs e p)) | inr e ↦ e ]
@@ -23,6 +31,11 @@ pub earlier-from : (xs : List ℕ) (m : ℕ) → ((k : ℕ) → k < m → orderl
 unfolding earlier orderly
 earlier-from xs zero h = refl
 earlier-from xs (suc m) h = and_from _ _ (h m (omega arith)) (earlier-from xs m (λ k l. h k (omega arith)))
+
+-- what the first node out of order says of all of them
+pub first_disorderly : (xs : List ℕ) (a b : ℕ) → (a ≡ 0) × (b ≡ sixes xs) → (r : Option ℕ) → MatchOption r ((k : ℕ) → a ≤ k → k < b → orderly xs k ≡ true) (λ i. (a ≤ i) × (i < b) × (orderly xs i ≡ false) × ((k : ℕ) → a ≤ k → k < i → orderly xs k ≡ true)) → MatchOption r (earlier xs (sixes xs) ≡ true) (FirstLate xs)
+first_disorderly xs a b e None h = earlier-from xs (sixes xs) (λ k l. h k (omega arith) (omega arith))
+first_disorderly xs a b e (Some i) h = (omega arith, h.2, λ k l. h.3 k (omega arith) l)
 
 pub earlier-not : (xs : List ℕ) (m p : ℕ) → p < m → orderly xs p ≡ false → earlier xs m ≡ false
 earlier-not xs m p h o = elim (cases_Bool (earlier xs m)) [ inl e ↦ absurd (both_ways _ o (earlier-at xs m p h e)) | inr e ↦ e ]

@@ -14,7 +14,7 @@ use Rattle.layout.specs.declared.node.Node.{Node}
 use Rattle.layout.specs.declared.node.Node.TheVariants.{Nothing, One, Both, Changed, Row, Column}
 use Rattle.layout.specs.Changes.{changed}
 use Rattle.layout.specs.declared.change.Change.TheVariants.{Move, Turn, Mirror}
-use Rattle.layout.proofs.Nodes.{read-any}
+use Rattle.layout.proofs.Reading.{read-any}
 use Rattle.layout.proofs.Sizes.{move_within, turn_within, mirror_within, copies-within}
 
 pub earlier-at : (xs : List ℕ) (m n : ℕ) → n < m → earlier xs m ≡ true → orderly xs n ≡ true

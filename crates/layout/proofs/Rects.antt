@@ -1,5 +1,6 @@
 -- What boxes cover after each of the ways to change them. Assumes nothing.
 use Rattle.std.proofs.Common.{◌≡◌, ℕ, zero, suc, ◌+◌, ◌-◌, ◌*◌, ◌<◌, ◌≤◌, Bool, true, false, ◌&&◌, ◌||◌, ltb, leb, List, [], ◌∷◌, ◌++◌, map, length, get_or, drop, sym, refl, ap, ◌∙◌, mul-zero, arith}
+use Rattle.std.specs.List.{list_any}
 use Rattle.std.proofs.lemmas.List.{at_drop_more, at_drop_all}
 use Rattle.std.proofs.lemmas.Bool.Decides.{nat_tests}
 use Rattle.layout.specs.Layout.{Layout, nothing, box, both, moved, turned, mirrored, row, column, cell, Drawing, shifted, in_a_row, in_a_column, drawn_with}
@@ -25,6 +26,11 @@ map-in f true l x y u v e [] = refl
 map-in f false l x y u v e [] = refl
 map-in f true l x y u v e (q ∷ qs) = simp (e q, map-in f true l x y u v e qs)
 map-in f false l x y u v e (q ∷ qs) = simp (e q, map-in f false l x y u v e qs)
+
+pub covered-any : (l x y : ℕ) (qs : List Rect) → covered qs l x y ≡ list_any (λ q. in_rect q l x y) qs
+unfolding covered
+covered-any l x y [] = refl
+covered-any l x y (q ∷ qs) = simp (covered-any l x y qs)
 
 pub covered-append : (qs ps : List Rect) (l x y : ℕ) → covered (qs ++ ps) l x y ≡ (covered qs l x y || covered ps l x y)
 unfolding covered

@@ -6,6 +6,7 @@ use Rattle.layout.specs.Numbers.{node_of, earlier_1}
 use Rattle.layout.specs.Rects.{Within}
 use Rattle.layout.specs.declared.node.Node.{Node}
 use Rattle.layout.specs.declared.node.Node.TheVariants.{Nothing, One, Both, Changed, Row, Column}
+use Rattle.layout.specs.declared.change.Change.TheVariants.{Move, Turn, Mirror}
 use Rattle.layout.specs.Changes.{changed, Little}
 
 -- the layout that a node is, with what the named ones are
@@ -32,7 +33,19 @@ numbered f xs n = node_of f (slice_index xs (6 * n)) (slice_index xs (6 * n + 1)
 unfoldable pub orderly : List ℕ → ℕ → Bool
 orderly xs n = earlier_1 n (slice_index xs (6 * n)) (slice_index xs (6 * n + 1)) (slice_index xs (6 * n + 2)) (slice_index xs (6 * n + 3))
 
+-- the numbers that spell it: its kind, and what it says
+abbrev pub Spelled : (k a b c e f : ℕ) → Node → Type 0
+Spelled k a b c e f Nothing = k ≡ 0
+Spelled k a b c e f (One q) = (k ≡ 1) × (a ≡ q.layer) × (b ≡ q.x) × (c ≡ q.y) × (e ≡ q.across) × (f ≡ q.down)
+Spelled k a b c e f (Both i j) = (k ≡ 2) × (a ≡ i) × (b ≡ j)
+Spelled k a b c e f (Changed (Move r u) i) = (k ≡ 3) × (a ≡ r) × (b ≡ u) × (c ≡ i)
+Spelled k a b c e f (Changed (Turn s) i) = (k ≡ 4) × (a ≡ s) × (b ≡ i)
+Spelled k a b c e f (Changed (Mirror s) i) = (k ≡ 5) × (a ≡ s) × (b ≡ i)
+Spelled k a b c e f (Row m d i) = (k ≡ 6) × (a ≡ m) × (b ≡ d) × (c ≡ i)
+Spelled k a b c e f (Column m d i) = (k ≡ 7) × (a ≡ m) × (b ≡ d) × (c ≡ i)
+
 pub record Read (xs : List ℕ) (n : ℕ) (d : Node) : Type 0 where
+  pub spelled : Spelled (slice_index xs (6 * n)) (slice_index xs (6 * n + 1)) (slice_index xs (6 * n + 2)) (slice_index xs (6 * n + 3)) (slice_index xs (6 * n + 4)) (slice_index xs (6 * n + 5)) d
   pub orders : orderly xs n ≡ true
   pub same : (f : ℕ → Layout) → numbered f xs n ≡ layout_of f d
   pub modest : Modest n d

@@ -1,7 +1,10 @@
 -- The number by which each refusal is known, and its place. Assumes nothing: these are definitions.
-use Rattle.std.specs.Prelude.{ℕ}
+use Rattle.std.specs.Prelude.{ℕ, List, ◌++◌, codes}
+use Rattle.std.specs.Fmt.{decimal}
 use Rattle.layout.specs.declared.refusal.Refusal.{Refusal}
 use Rattle.layout.specs.declared.refusal.Refusal.TheVariants.{Nodes, Number, Node, Boxes, Regions, Region, Technology, Spots, Room, Circuit, Text}
+use Rattle.layout.specs.declared.refusal.Fault.{Fault}
+use Rattle.layout.specs.declared.refusal.Fault.TheVariants.{Refused, Memory}
 
 abbrev pub number_of : Refusal → ℕ
 number_of (Nodes p) = 1
@@ -28,3 +31,11 @@ place_of (Spots p) = p
 place_of (Room p) = p
 place_of (Circuit p) = p
 place_of (Text p) = p
+
+-- how it is shown
+abbrev pub refusal_text : Refusal → List ℕ
+refusal_text r = codes "refusal " ++ (decimal (number_of r) ++ (codes " at " ++ decimal (place_of r)))
+
+abbrev pub fault_text : Fault → List ℕ
+fault_text (Refused r) = refusal_text r
+fault_text Memory = codes "no memory"

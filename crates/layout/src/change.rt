@@ -1,6 +1,6 @@
 // Changes of many boxes in place: each by itself, or copied.
 ghost use Rattle.std.specs.Prelude.{◌≡◌, ◌*◌, ◌^◌, ◌<◌, ◌≤◌, ◌++◌, map, take, drop, vec_len, OnOk};
-ghost use Rattle.std.specs.List.{AllWithin, between, AllByRecursion};
+ghost use Rattle.std.specs.List.{AllByRecursion};
 ghost use Rattle.layout.specs.Changes.{Mild, change_rect};
 ghost use Rattle.layout.specs.Rects.{Within, move_rect, copies};
 
@@ -9,12 +9,13 @@ use std::alloc::AllocError;
 
 /// A way to change boxes, each by itself.
 #[derive(Clone, Copy)]
-pub(crate) enum Change {
+pub enum Change {
     Move { right: u64, below: u64 },
     Turn { side: u64 },
     Mirror { side: u64 },
 }
 
+// How far a box reaches grows from node to node, so no type can say it: each change asks for room of its own.
 impl Rect {
     fn changed(self, by: Change) -> Rect
         requires within { Within (2 ^ 48) self }
@@ -49,26 +50,6 @@ pub(crate) fn change_tail(out: &mut Vec<Rect>, start: usize, by: Change)
     change_all(&mut out.as_mut_slice()[start..], by);
 }
 
-/// Adds a moved copy of the boxes between two places.
-fn copy_once(
-    out: &mut Vec<Rect>,
-    start: usize,
-    end: usize,
-    right: u64,
-    below: u64,
-) -> Result<(), AllocError>
-    requires ends { (start ≤ end) × (end ≤ vec_len out.old) }
-    requires within { AllWithin (Within (2 ^ 48)) out.old.items start end }
-    requires mild { (right ≤ 2 ^ 48) × (below ≤ 2 ^ 48) }
-    ensures { OnOk result (out.new.items ≡ out.old.items ++ map (move_rect right below) (between start end out.old.items)) }
-{
-    for i in start..end {
-        let q = out[i];
-        out.push(q.moved(right, below))?;
-    }
-    Ok(())
-}
-
 /// Makes so many of the boxes from a place on, each so far from the ones before.
 pub(crate) fn copy_tail(
     out: &mut Vec<Rect>,
@@ -79,13 +60,19 @@ pub(crate) fn copy_tail(
 ) -> Result<(), AllocError>
     requires start { start ≤ vec_len out.old }
     requires some { 0 < many }
-    requires within { AllWithin (Within (2 ^ 48)) out.old.items start (vec_len out.old) }
+    requires within { AllByRecursion (Within (2 ^ 48)) (drop start out.old.items) }
     requires mild { (many * right ≤ 2 ^ 48) × (many * below ≤ 2 ^ 48) }
     ensures { OnOk result (out.new.items ≡ take start out.old.items ++ copies many right below (drop start out.old.items)) }
 {
     let end = out.len();
     for k in 1..many {
-        copy_once(out, start, end, k * right, k * below)?;
+        let at = out.len();
+        out.extend_from_within(start..end)?;
+        let by = Change::Move {
+            right: k * right,
+            below: k * below,
+        };
+        change_tail(out, at, by);
     }
     Ok(())
 }

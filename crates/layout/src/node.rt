@@ -1,16 +1,15 @@
 // Nodes of six numbers, read as what they say.
-ghost use Rattle.std.specs.Prelude.{◌≡◌, ◌+◌, ◌*◌, ◌<◌, ◌≤◌, true, length};
+ghost use Rattle.std.specs.Prelude.{◌≡◌, ◌+◌, ◌*◌, ◌≤◌, true, length};
 ghost use Rattle.layout.specs.Limits.{max_number};
-ghost use Rattle.layout.specs.Nodes.{Read, Reads};
-ghost use Rattle.layout.specs.Numbers.{all_at_most, sixes};
-ghost use Rattle.layout.specs.Pieces.{Sound};
+ghost use Rattle.layout.specs.Nodes.{Reads};
+ghost use Rattle.layout.specs.Numbers.{all_at_most};
 
 use super::change::Change;
 use super::rect::Rect;
 
 /// What a node says, the nodes that it names by their numbers.
 #[derive(Clone, Copy)]
-pub(crate) enum Node {
+pub enum Node {
     Nothing,
     One(Rect),
     Both(usize, usize),
@@ -63,17 +62,5 @@ pub(crate) fn node_at(nodes: &[u64], n: usize) -> Option<Node>
             of: c as usize,
         }),
         _ => None,
-    }
-}
-
-/// The node of this number in a layout that is checked.
-pub(crate) fn sound_node(nodes: &[u64], n: usize) -> Node
-    requires sound { Sound nodes.now }
-    requires within { n < sixes nodes.now }
-    ensures { Read nodes.now n result }
-{
-    match node_at(nodes, n) {
-        Some(node) => node,
-        None => unreachable(),
     }
 }

@@ -18,11 +18,9 @@ impl Rect {
         ensures { result ≡ move_rect right below self }
     {
         Rect {
-            layer: self.layer,
             x: self.x + right,
             y: self.y + below,
-            across: self.across,
-            down: self.down,
+            ..self
         }
     }
 
@@ -48,11 +46,9 @@ impl Rect {
     {
         let left = side.saturating_sub(self.x + self.across);
         Rect {
-            layer: self.layer,
             x: left,
-            y: self.y,
             across: side.saturating_sub(self.x) - left,
-            down: self.down,
+            ..self
         }
     }
 
@@ -71,10 +67,5 @@ impl Rect {
 pub fn covers(rects: &[Rect], layer: u64, x: u64, y: u64) -> bool
     ensures { result ≡ covered rects.now layer x y }
 {
-    for q in rects {
-        if q.contains(layer, x, y) {
-            return true;
-        }
-    }
-    false
+    rects.iter().any(|q| q.contains(layer, x, y))
 }

@@ -1,9 +1,11 @@
 // Why an entry of the checker turns its arguments away, and where. All entries share these.
-ghost use Rattle.std.specs.Prelude.{◌≡◌};
-ghost use Rattle.layout.specs.Refusals.{number_of, place_of};
+ghost use Rattle.std.specs.Prelude.{◌≡◌, Some};
+ghost use Rattle.layout.specs.Refusals.{number_of, place_of, refusal_text, fault_text};
 ghost use Rattle.layout.specs.declared.refusal.Fault.TheVariants.{Refused as IsRefused, Memory};
 
 use std::alloc::{AllocError, AllocFailed};
+use std::error::Error;
+use std::fmt;
 
 /// A refusal, with its place counted from 0.
 #[derive(Clone, Copy, Debug, PartialEq)]
@@ -71,12 +73,37 @@ impl Refusal {
     }
 }
 
+impl fmt::Display for Refusal {
+    ghost output = { λ r. Some (refusal_text r) };
+
+    fn fmt<W: fmt::Write>(&self, f: &mut fmt::Formatter<W>) -> fmt::Result {
+        let number = self.number();
+        let place = self.place();
+        write!(f, "refusal {number} at {place}")
+    }
+}
+
+impl Error for Refusal {}
+
 /// Why there is no answer: the arguments are turned away, or there is no memory.
 #[derive(Clone, Copy, Debug, PartialEq)]
 pub enum Fault {
     Refused(Refusal),
     Memory,
 }
+
+impl fmt::Display for Fault {
+    ghost output = { λ e. Some (fault_text e) };
+
+    fn fmt<W: fmt::Write>(&self, f: &mut fmt::Formatter<W>) -> fmt::Result {
+        match self {
+            Fault::Refused(refusal) => write!(f, "{refusal}"),
+            Fault::Memory => f.write_str("no memory"),
+        }
+    }
+}
+
+impl Error for Fault {}
 
 impl From<AllocError> for Fault {
     ghost from_gives = { λ _ r. r ≡ Memory };

@@ -1,13 +1,14 @@
 -- What is added to a text for a node, case by case. Assumes nothing.
-use Rattle.std.proofs.Common.{◌≡◌, ℕ, zero, suc, ◌+◌, ◌-◌, ◌*◌, ◌<◌, Bool, false, cond, List, [], ◌++◌, get_or, codes, sym, ap, ◌∙◌, arith}
+use Rattle.std.proofs.Common.{◌≡◌, ℕ, zero, suc, ◌+◌, ◌-◌, ◌*◌, ◌<◌, Bool, true, false, cond, List, [], ◌++◌, get_or, codes, sym, refl, ap, ◌∙◌, arith}
+use mathlib.Core.Bool.{true≢false}
 use Rattle.std.proofs.lemmas.List.{append_assoc, append-nil}
 use Rattle.std.proofs.lemmas.Bool.{ne_eqb}
-use Rattle.layout.specs.Nodes.{orderly}
+use Rattle.layout.specs.Nodes.{Spelled, Read}
+use Rattle.layout.specs.declared.node.Node.{Node}
+use Rattle.layout.specs.declared.node.Node.TheVariants.{Nothing, One, Both, Changed, Row, Column}
+use Rattle.layout.specs.declared.change.Change.TheVariants.{Move, Turn, Mirror}
 use Rattle.layout.specs.Numbers.{sixes}
-use Rattle.layout.specs.Pieces.{Sound}
-use Rattle.layout.proofs.Nodes.{below-2}
-use Rattle.layout.proofs.Pieces.{earlier-at}
-use Rattle.layout_writer.specs.Lines.{line_of, open_words, statement_line, numbers_of}
+use Rattle.layout_writer.specs.Lines.{line_of, box_words, change_words, copies_words, open_words, statement_words, statement_line, numbers_of}
 use Rattle.layout_writer.specs.Cells.{has_cell}
 use Rattle.layout_writer.specs.Texts.{node_text, put_line, statements, cell_text, cells_text, layout_text}
 
@@ -44,6 +45,51 @@ module _ (xs g : List ℕ) (n : ℕ) (named : Bool) (unnamed : named ≡ false) 
       let k = get_or xs (6 * n) 0 in
       onto (suc l) (g ++ line) f (ap (λ t. g ++ t) e ∙ sym (simp (ne_eqb k 0 p, ne_eqb k 2 q)))
 
+-- whether a node is one line
+abbrev pub one_line : Node → Bool
+one_line Nothing = false
+one_line (One q) = true
+one_line (Both a b) = false
+one_line (Changed w a) = true
+one_line (Row m d a) = true
+one_line (Column m d a) = true
+
+-- the line of a node that is neither nothing nor both
+abbrev pub node_line : Node → List ℕ
+node_line Nothing = []
+node_line (One q) = line_of (box_words q.layer q.x q.y q.across q.down)
+node_line (Both a b) = []
+node_line (Changed w a) = line_of (change_words w a)
+node_line (Row m d a) = line_of (copies_words (codes "row") m d a)
+node_line (Column m d a) = line_of (copies_words (codes "column") m d a)
+
+spelled_line : (k a b c e f : ℕ) (d : Node) → Spelled k a b c e f d → one_line d ≡ true → line_of (statement_words k a b c e f) ≡ node_line d
+spelled_line k a b c e f Nothing h t = absurd (true≢false (sym t))
+spelled_line k a b c e f (One d) h t = rw (h.0, h.1, h.2, h.3, h.4, h.5) refl
+spelled_line k a b c e f (Both i j) h t = absurd (true≢false (sym t))
+spelled_line k a b c e f (Changed (Move r u) i) h t = rw (h.0, h.1, h.2, h.3) refl
+spelled_line k a b c e f (Changed (Turn s) i) h t = rw (h.0, h.1, h.2) refl
+spelled_line k a b c e f (Changed (Mirror s) i) h t = rw (h.0, h.1, h.2) refl
+spelled_line k a b c e f (Row m d i) h t = rw (h.0, h.1, h.2, h.3) refl
+spelled_line k a b c e f (Column m d i) h t = rw (h.0, h.1, h.2, h.3) refl
+
+-- its kind is neither
+not-2 : (k a b c e f : ℕ) (d : Node) → Spelled k a b c e f d → one_line d ≡ true → (k ≡ 0 → ⊥) × (k ≡ 2 → ⊥)
+not-2 k a b c e f Nothing h t = absurd (true≢false (sym t))
+not-2 k a b c e f (One d) h t = (λ e. omega (arith, h.0), λ e. omega (arith, h.0))
+not-2 k a b c e f (Both i j) h t = absurd (true≢false (sym t))
+not-2 k a b c e f (Changed (Move r u) i) h t = (λ e. omega (arith, h.0), λ e. omega (arith, h.0))
+not-2 k a b c e f (Changed (Turn s) i) h t = (λ e. omega (arith, h.0), λ e. omega (arith, h.0))
+not-2 k a b c e f (Changed (Mirror s) i) h t = (λ e. omega (arith, h.0), λ e. omega (arith, h.0))
+not-2 k a b c e f (Row m d i) h t = (λ e. omega (arith, h.0), λ e. omega (arith, h.0))
+not-2 k a b c e f (Column m d i) h t = (λ e. omega (arith, h.0), λ e. omega (arith, h.0))
+
+module _ (xs g : List ℕ) (n : ℕ) (named : Bool) (unnamed : named ≡ false) (old new put : List ℕ) where
+  pub adds-node : (d : Node) → Read xs n d → one_line d ≡ true → (line : List ℕ) → line ≡ node_line d → new ≡ old ++ (g ++ line) → (l : ℕ) → n < l → new ≡ old ++ cond named put (statements xs g l n)
+  adds-node d r t line e f =
+      let apart = not-2 _ _ _ _ _ _ d r.spelled t in
+      adds-line xs g n named unnamed old new put apart.0 apart.1 line (e ∙ sym (spelled_line _ _ _ _ _ _ d r.spelled t)) f
+
 -- a cell
 pub adds-cell : (xs : List ℕ) (n : ℕ) (old mid late new line : List ℕ) → line ≡ line_of (open_words n) → mid ≡ old ++ line → late ≡ mid ++ statements xs (codes "    ") (suc n) n → new ≡ late ++ codes "}\n" → new ≡ old ++ cell_text xs n
 adds-cell xs n old mid late new line e f g h =
@@ -61,8 +107,3 @@ cells-more xs n b old new e f g =
 pub text_all : (xs : List ℕ) (n m : ℕ) (old new : List ℕ) → n ≡ sixes xs → m ≡ sixes xs - 1 → old ≡ cells_text xs n → new ≡ old ++ statements xs [] (sixes xs) m → new ≡ layout_text xs
 text_all xs n m old new e f p q =
     q ∙ ap (λ t. t ++ statements xs [] (sixes xs) m) (p ∙ ap (cells_text xs) e) ∙ ap (λ k. cells_text xs (sixes xs) ++ statements xs [] (sixes xs) k) f
-
--- the parts of both are earlier nodes
-pub parts_below : (xs : List ℕ) (n : ℕ) → Sound xs → n < sixes xs → get_or xs (6 * n) 0 ≡ 2 → (get_or xs (6 * n + 1) 0 < n) × (get_or xs (6 * n + 2) 0 < n)
-unfolding orderly
-parts_below xs n sound h k = below-2 n (get_or xs (6 * n) 0) (get_or xs (6 * n + 1) 0) (get_or xs (6 * n + 2) 0) (get_or xs (6 * n + 3) 0) k (earlier-at xs (sixes xs) n h sound.names)

@@ -4,7 +4,6 @@ pub mod Cutting
 pub mod Statements
 pub mod Named
 pub mod Quiet
-pub mod Checked
 pub mod Used
 pub mod Adding
 pub mod Drawings

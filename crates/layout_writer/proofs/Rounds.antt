@@ -9,7 +9,7 @@ use Rattle.layout.specs.Limits.{max_number}
 use Rattle.layout.specs.Nodes.{orderly, numbered}
 use Rattle.layout.specs.Numbers.{node_of, node_at, sixes, layout_in, earlier_1}
 use Rattle.layout.specs.Pieces.{Sound, piece}
-use Rattle.layout.proofs.Nodes.{at_most, below-2, below-3, below-4, below-5, below-6, below-7}
+use Rattle.layout.proofs.Reading.{at_most, below-2, below-3, below-4, below-5, below-6, below-7}
 use Rattle.layout.proofs.Pieces.{earlier-at, read_of, piece_is, settle}
 use Rattle.words.specs.Places.{place_below, place_of}
 use Rattle.words.specs.Lines.{last_line as final-line}

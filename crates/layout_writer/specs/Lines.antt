@@ -1,4 +1,6 @@
 -- Statements as lines of text. Assumes nothing: these are definitions.
+use Rattle.layout.specs.declared.change.Change.{Change}
+use Rattle.layout.specs.declared.change.Change.TheVariants.{Move, Turn, Mirror}
 use Rattle.std.specs.Prelude.{ℕ, ◌+◌, ◌*◌, cond, List, [], ◌∷◌, ◌++◌, codes, decimal, ◌==◌, slice_index}
 
 -- words with a blank between them, and a newline
@@ -22,6 +24,16 @@ put_words a x y = codes "put" ∷ name a ∷ codes "at" ∷ x ∷ y ∷ []
 
 abbrev pub put_here : ℕ → List (List ℕ)
 put_here a = put_words a (codes "0") (codes "0")
+
+-- a node that is changed: a turn follows a put that doesn't move
+abbrev pub change_words : Change → ℕ → List (List ℕ)
+change_words (Move r u) a = put_words a (decimal r) (decimal u)
+change_words (Turn s) a = put_here a ++ codes "turned" ∷ decimal s ∷ []
+change_words (Mirror s) a = put_here a ++ codes "mirrored" ∷ decimal s ∷ []
+
+-- copies of a node, by `row` or `column`
+abbrev pub copies_words : (word : List ℕ) → (many far a : ℕ) → List (List ℕ)
+copies_words w n d a = w ∷ decimal n ∷ decimal d ∷ name a ∷ []
 
 -- the statement of a node that is neither nothing nor both
 abbrev pub statement_words : (k a b c e f : ℕ) → List (List ℕ)

@@ -5,7 +5,6 @@ use Rattle.layout.specs.Checks.{TurnedAway}
 use Rattle.layout.specs.Numbers.{sixes, layout_in}
 use Rattle.layout.specs.Pieces.{Sound}
 use Rattle.layout.specs.Refusals.{number_of}
-use Rattle.layout.specs.declared.refusal.Refusal.{Refusal}
 use Rattle.layout.specs.declared.refusal.Fault.{Fault}
 use Rattle.layout.specs.declared.refusal.Fault.TheVariants.{Refused, Memory}
 use Rattle.text.specs.LayoutTexts.{Meaning, layout_text as meant-by}
@@ -43,11 +42,6 @@ pub record ReadsBack (text xs : List ℕ) : Type 0 where
   pub read : meant-by text ≡ Ok meaning
   pub no_pins : meaning.pins ≡ []
   pub draws : (l x y : ℕ) → layout_in meaning.nodes l x y ≡ layout_in xs l x y
-
--- all nodes are in order, or one of the refusals 1 and 2
-abbrev pub InOrder : List ℕ → Result (Unit {0}) Refusal → Type 0
-InOrder xs (Ok u) = Sound xs
-InOrder xs (Err e) = TurnedAway xs e × (number_of e ≤ 2)
 
 -- the text of a layout whose nodes are in order, however many boxes they are
 abbrev pub Written : List ℕ → Result (String Global) Fault → Type 0

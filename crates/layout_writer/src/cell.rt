@@ -1,46 +1,39 @@
 // Which nodes get a cell of their own.
-ghost use Rattle.std.specs.Prelude.{◌≡◌, ◌≤◌, slice_index};
-ghost use Rattle.layout.specs.Pieces.{Sound};
+ghost use Rattle.std.specs.Prelude.{◌≡◌, ℕ, ◌≤◌};
+ghost use Rattle.layout.specs.Nodes.{Spelled};
 ghost use Rattle.layout_writer.specs.Cells.{once, uses, has_cell};
 
-use super::line::numbers_of;
+use layout::node::Node;
+use layout::nodes::Nodes;
 
-fn once(a: u64, m: u64) -> u64
+fn once(a: usize, m: usize) -> u64
     ensures same { result ≡ once a m }
     ensures few { result ≤ 1 }
 {
-    if a == m { 1 } else { 0 }
+    u64::from(a == m)
 }
 
 /// How often a node stands on another: twice where it has to name it.
-fn uses(numbers: [u64; 6], m: u64) -> u64
-    ensures same { result ≡ uses (slice_index numbers 0) (slice_index numbers 1) (slice_index numbers 2) (slice_index numbers 3) m }
+fn uses(node: Node, m: usize) -> u64
+    ensures same { (k a b c e f : ℕ) → Spelled k a b c e f node → result ≡ uses k a b c m }
     ensures few { result ≤ 2 }
 {
-    let [kind, a, b, c, _, _] = numbers;
-    if kind <= 1 {
-        return 0;
+    match node {
+        Node::Nothing | Node::One(_) => 0,
+        Node::Both(a, b) => once(a, m) + once(b, m),
+        Node::Changed { of, .. } | Node::Row { of, .. } | Node::Column { of, .. } => {
+            2 * once(of, m)
+        }
     }
-    if kind == 2 {
-        return once(a, m) + once(b, m);
-    }
-    if kind == 4 {
-        return 2 * once(b, m);
-    }
-    if kind == 5 {
-        return 2 * once(b, m);
-    }
-    2 * once(c, m)
 }
 
 /// Whether a node gets a cell: it is named, or stands in two places.
-pub(crate) fn has_cell(layout: &[u64], m: usize) -> bool
-    requires { Sound layout.now }
-    ensures { result ≡ has_cell layout.now m }
+pub(crate) fn has_cell(nodes: &Nodes<'_>, m: usize) -> bool
+    ensures { result ≡ has_cell nodes.now.numbers.now m }
 {
     let mut total = 0;
-    for n in 0..layout.len() / 6 {
-        total += uses(numbers_of(layout, n), m as u64);
+    for n in 0..nodes.len() {
+        total += uses(nodes.node(n), m);
     }
     total >= 2
 }

@@ -1,52 +1,47 @@
 // Statements written as lines of a layout text.
-ghost use Rattle.std.specs.Prelude.{◌≡◌, ◌+◌, ◌*◌, ◌≤◌, length, IfOk, string_bytes};
-ghost use Rattle.layout_writer.specs.Lines.{numbers_of, line_of, box_words, put_here, open_words, statement_line};
+ghost use Rattle.std.specs.Prelude.{◌≡◌, IfOk, codes, string_bytes};
+ghost use Rattle.layout_writer.specs.Lines.{line_of, box_words, change_words, copies_words, put_here, open_words};
 
+use layout::change::Change;
+use layout::rect::Rect;
 use std::alloc::{AllocError, Global};
 
-/// The six numbers of a node.
-pub(crate) fn numbers_of(layout: &[u64], n: usize) -> [u64; 6]
-    requires { 6 * n + 6 ≤ length layout.now }
-    ensures { result ≡ numbers_of layout.now n }
-{
-    let at = 6 * n;
-    [
-        layout[at],
-        layout[at + 1],
-        layout[at + 2],
-        layout[at + 3],
-        layout[at + 4],
-        layout[at + 5],
-    ]
-}
-
 /// The line of a box.
-fn box_line(
-    heap: Global,
-    layer: u64,
-    x: u64,
-    y: u64,
-    across: u64,
-    down: u64,
-) -> Result<String, AllocError>
-    ensures { IfOk result (λ s. string_bytes s ≡ line_of (box_words layer x y across down)) }
+pub(crate) fn box_line(heap: Global, rect: Rect) -> Result<String, AllocError>
+    ensures { IfOk result (λ s. string_bytes s ≡ line_of (box_words rect.layer rect.x rect.y rect.across rect.down)) }
 {
+    let Rect {
+        layer,
+        x,
+        y,
+        across,
+        down,
+    } = rect;
     format!(in heap; "box {layer} {x} {y} {across} {down}\n")
 }
 
-/// The line of a node that is neither nothing nor both. A turn follows a put that doesn't move.
-pub(crate) fn statement_line(heap: Global, numbers: [u64; 6]) -> Result<String, AllocError>
-    ensures { IfOk result (λ s. string_bytes s ≡ statement_line numbers) }
+/// The line of a node that is changed. A turn follows a put that doesn't move.
+pub(crate) fn change_line(heap: Global, by: Change, of: usize) -> Result<String, AllocError>
+    ensures { IfOk result (λ s. string_bytes s ≡ line_of (change_words by of)) }
 {
-    let [kind, a, b, c, d, e] = numbers;
-    match kind {
-        1 => box_line(heap, a, b, c, d, e),
-        3 => format!(in heap; "put n{c} at {a} {b}\n"),
-        4 => format!(in heap; "put n{b} at 0 0 turned {a}\n"),
-        5 => format!(in heap; "put n{b} at 0 0 mirrored {a}\n"),
-        6 => format!(in heap; "row {a} {b} n{c}\n"),
-        _ => format!(in heap; "column {a} {b} n{c}\n"),
+    match by {
+        Change::Move { right, below } => format!(in heap; "put n{of} at {right} {below}\n"),
+        Change::Turn { side } => format!(in heap; "put n{of} at 0 0 turned {side}\n"),
+        Change::Mirror { side } => format!(in heap; "put n{of} at 0 0 mirrored {side}\n"),
     }
+}
+
+/// The line of copies of a node: a row of them, or a column.
+pub(crate) fn copies_line(
+    heap: Global,
+    word: &str,
+    many: u64,
+    far: u64,
+    of: usize,
+) -> Result<String, AllocError>
+    ensures { IfOk result (λ s. string_bytes s ≡ line_of (copies_words word.now many far of)) }
+{
+    format!(in heap; "{word} {many} {far} n{of}\n")
 }
 
 /// The line that puts the cell of a node where it is.

@@ -54,8 +54,8 @@ far-wire k qs l h x y o = and_right (k.carries l) _ (and_left (covered qs l x y)
 -- the wire of a layer
 
 module _ (k : Technology) (qs : List Rect) (l : ℕ) (bs : List Band) where
-  pub shows-none : k.carries l ≡ false → ((x y : ℕ) → covers bs x y ≡ covered [] l x y) → Shows bs (wire k (covered qs) l)
-  unfolding wire covered
+  pub shows-none : k.carries l ≡ false → ((x y : ℕ) → covers bs x y ≡ false) → Shows bs (wire k (covered qs) l)
+  unfolding wire
   shows-none h e = record { shows = λ x y. e x y ∙ sym (and_left (k.carries l) _ h) }
 
   pub shows-whole : k.carries l ≡ true → (l ≡ k.crossed → ⊥) → ((x y : ℕ) → covers bs x y ≡ covered qs l x y) → Shows bs (wire k (covered qs) l)

@@ -1,8 +1,12 @@
 -- When a technology in numbers is taken, and that it is what is decoded.
-use Rattle.std.proofs.Common.{◌≡◌, ℕ, zero, suc, ◌+◌, ◌*◌, ◌<◌, ◌≤◌, Bool, true, false, ◌&&◌, eqb, ltb, leb, List, [], ◌∷◌, ◌++◌, length, get_or, take, drop, sym, refl, ap, ◌∙◌, inl, inr, add-one, arith}
+use Rattle.std.proofs.Common.{◌≡◌, ℕ, zero, suc, ◌+◌, ◌*◌, ◌<◌, ◌≤◌, Bool, true, false, not, ◌&&◌, eqb, ltb, leb, List, [], ◌∷◌, ◌++◌, Option, Some, None, length, get_or, take, drop, sym, refl, ap, ◌∙◌, inl, inr, add-one, arith}
 use Rattle.std.proofs.lemmas.List.{length_push, get_or_push, get_or_past, get_or_append_left}
 use Rattle.std.proofs.lemmas.Bool.{and_parts, cases_Bool, cases_order, le-leb, leb-true, lt-ltb, le-ltb, ltb-true, eq-eqb, eqb-true}
+use mathlib.Core.Bool.{true≢false}
+use Rattle.std.specs.Option.{is_some, MatchOption}
 use Rattle.layout.specs.Numbers.{all_at_most}
+use Rattle.layout.specs.Checks.{FirstAbove}
+use Rattle.layout.proofs.Checks.{all_not}
 use Rattle.nets.specs.declared.process.Join.{Join}
 use Rattle.nets.specs.Limits.{max_layers, max_joins}
 use Rattle.nets.specs.Technologies.{joins_in, technology_in, technology_ok}
@@ -52,6 +56,13 @@ facts_ok xs f =
 
 pub not-ok : (xs : List ℕ) → (Facts xs → ⊥) → technology_ok xs ≡ false
 not-ok xs n = elim (cases_Bool (technology_ok xs)) [ inl e ↦ absurd (n (ok_facts xs e)) | inr e ↦ e ]
+
+-- no number above a limit: what the search for the first one tells
+pub none_above : (m : ℕ) (xs : List ℕ) (o : Option ℕ) (b : Bool) → MatchOption o (all_at_most m xs ≡ true) (FirstAbove m xs) → is_some o ≡ not b → b ≡ all_at_most m xs
+none_above m xs None true h e = sym h
+none_above m xs None false h e = absurd (true≢false (sym e))
+none_above m xs (Some p) true h e = absurd (true≢false e)
+none_above m xs (Some p) false h e = sym (all_not m xs p h.1)
 
 -- what is decoded
 

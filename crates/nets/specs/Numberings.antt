@@ -7,9 +7,7 @@ use Rattle.layout.specs.Refusals.{number_of}
 use Rattle.layout.specs.declared.refusal.Refusal.{Refusal}
 use Rattle.layout.specs.declared.refusal.Refusal.TheVariants.{Nodes, Number, Node, Boxes, Regions, Region, Technology, Spots, Room, Circuit, Text}
 use Rattle.layout.specs.declared.refusal.Fault.{Fault}
-use Rattle.layout.specs.declared.refusal.Fault.TheVariants.{Refused as Turned, Memory as Empty}
-use Rattle.nets.specs.declared.entry.Numbering.{Numbering}
-use Rattle.nets.specs.declared.entry.Numbering.TheVariants.{Numbered, Refused, Memory}
+use Rattle.layout.specs.declared.refusal.Fault.TheVariants.{Refused, Memory}
 use Rattle.nets.specs.Technologies.{technology_in, technology_ok}
 use Rattle.nets.specs.Spots.{spots_ok, Misplaced, Counted}
 
@@ -33,15 +31,9 @@ RefusedAt xs technology spots numbers (Circuit p) = ⊥
 RefusedAt xs technology spots numbers (Text p) = ⊥
 
 -- the spots are numbered; or turned away, or out of memory, with the numbers as they were
-abbrev pub Says : (xs technology spots numbers : List ℕ) → Numbering → (numbers₁ : List ℕ) → Type 0
-Says xs technology spots numbers Numbered numbers₁ =
+abbrev pub Says : (xs technology spots numbers : List ℕ) → Result (Unit {0}) Fault → (numbers₁ : List ℕ) → Type 0
+Says xs technology spots numbers (Ok u) numbers₁ =
     (nets_refusal xs technology spots numbers ≡ 0) × (length numbers₁ ≡ length numbers) × Counted (technology_in technology) (layout_in xs) spots (length numbers) numbers₁
-Says xs technology spots numbers (Refused e) numbers₁ =
+Says xs technology spots numbers (Err (Refused e)) numbers₁ =
     (nets_refusal xs technology spots numbers ≡ number_of e) × RefusedAt xs technology spots numbers e × (numbers₁ ≡ numbers)
-Says xs technology spots numbers Memory numbers₁ = (nets_refusal xs technology spots numbers ≡ 0) × (numbers₁ ≡ numbers)
-
--- the same of a result
-abbrev pub SaysSo : (xs technology spots numbers : List ℕ) → Result (Unit {0}) Fault → (numbers₁ : List ℕ) → Type 0
-SaysSo xs technology spots numbers (Ok u) numbers₁ = Says xs technology spots numbers Numbered numbers₁
-SaysSo xs technology spots numbers (Err (Turned e)) numbers₁ = Says xs technology spots numbers (Refused e) numbers₁
-SaysSo xs technology spots numbers (Err Empty) numbers₁ = Says xs technology spots numbers Memory numbers₁
+Says xs technology spots numbers (Err Memory) numbers₁ = (nets_refusal xs technology spots numbers ≡ 0) × (numbers₁ ≡ numbers)

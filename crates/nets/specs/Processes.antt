@@ -1,7 +1,11 @@
 -- What a decoded technology means. Assumes nothing: these are definitions.
-use Rattle.std.specs.Prelude.{ℕ, zero, suc, ◌+◌, ◌*◌, Bool, false, ◌&&◌, ◌||◌, List, [], ◌∷◌, ◌++◌, length, vec_items, ◌==◌, slice_index, slice_index_or}
+use Rattle.std.specs.Prelude.{◌≡◌, ℕ, zero, suc, ◌+◌, ◌*◌, Bool, false, ◌&&◌, ◌||◌, List, [], ◌∷◌, ◌++◌, length, Ok, Err, Result, vec_items, ◌==◌, slice_index, slice_index_or}
+use Rattle.layout.specs.declared.refusal.Refusal.{Refusal}
+use Rattle.layout.specs.declared.refusal.Refusal.TheVariants.{Technology as OfTechnology}
 use Rattle.nets.specs.declared.process.Join.{Join}
 use Rattle.nets.specs.declared.process.Process.{Process}
+use Rattle.nets.specs.declared.technology.Technology.{Technology as Numbers}
+use Rattle.nets.specs.Technologies.{technology_ok}
 use Rattle.nets.specs.Nets.{Technology}
 
 -- which of the first n layers are marked
@@ -29,3 +33,8 @@ technology_of p = record {
   gate = p.gate;
   crossed = p.crossed;
 }
+
+-- the technology of the numbers, or the refusal that tells how many there are
+abbrev pub TechnologyRead : List ℕ → Result Numbers Refusal → Type 0
+TechnologyRead xs (Ok t) = t.numbers.now ≡ xs
+TechnologyRead xs (Err e) = (technology_ok xs ≡ false) × (e ≡ OfTechnology (length xs))

@@ -1,10 +1,12 @@
 -- Spots in threes: layer, x, y; and numbers for them by where one can go. Assumes nothing: these are definitions.
-use Rattle.std.specs.Prelude.{◌≡◌, ℕ, suc, ◌+◌, ◌*◌, ◌<◌, Bool, true, false, cond, ◌&&◌, ◌⊎◌, List, [], ◌∷◌, length, Some, None, Option, ◌==◌, nat_le, slice_index}
+use Rattle.std.specs.Prelude.{◌≡◌, ℕ, suc, ◌+◌, ◌*◌, ◌<◌, Bool, true, false, cond, ◌&&◌, ◌⊎◌, List, [], ◌∷◌, length, Some, None, Ok, Err, Option, Result, ◌==◌, nat_le, slice_index}
 use Rattle.std.specs.Option.{option_map}
 use Rattle.groups.specs.Numbers.{highest}
 use Rattle.layout.specs.Layout.{Drawing}
 use Rattle.layout.specs.Numbers.{all_at_most}
 use Rattle.layout.specs.Checks.{FirstAbove}
+use Rattle.layout.specs.declared.refusal.Refusal.{Refusal}
+use Rattle.layout.specs.declared.refusal.Refusal.TheVariants.{Spots}
 use Rattle.tiles.specs.declared.tile.Tile.{Tile}
 use Rattle.tiles.specs.Tiles.{in_tile}
 use Rattle.nets.specs.Limits.{max_spots, max_spot}
@@ -24,6 +26,11 @@ spots_ok xs n = length xs == 3 * n && (nat_le n max_spots && all_at_most max_spo
 abbrev pub Misplaced : List ℕ → (asked place : ℕ) → Type 0
 Misplaced xs n p =
     (spots_ok xs n ≡ false) × (((spots_fit xs n ≡ false) × (p ≡ length xs)) ⊎ ((spots_fit xs n ≡ true) × FirstAbove max_spot xs p))
+
+-- they are taken, or turned away at the place of the fault
+abbrev pub Placed : List ℕ → (asked : ℕ) → Result (Unit {0}) Refusal → Type 0
+Placed xs n (Ok u) = spots_ok xs n ≡ true
+Placed xs n (Err e) = (p : ℕ) × (e ≡ Spots p) × Misplaced xs n p
 
 -- the tile that holds a square, if one does
 abbrev pub holder : List Tile → (l x y : ℕ) → Option ℕ

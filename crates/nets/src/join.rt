@@ -1,7 +1,6 @@
 // Joins between layers: the tiles of both layers under each bridge are one net.
-ghost use Rattle.std.specs.Prelude.{◌≡◌, ◌^◌, length, IfOk};
-ghost use Rattle.std.specs.List.{AllByRecursion};
-ghost use Rattle.layout.specs.Rects.{Within, covered};
+ghost use Rattle.std.specs.Prelude.{◌≡◌, length, IfOk};
+ghost use Rattle.layout.specs.Rects.{covered};
 ghost use Rattle.groups.specs.Names.{size, group};
 ghost use Rattle.groups.specs.Chains.{Grouped};
 ghost use Rattle.tiles.specs.Tiles.{Ordered};
@@ -10,10 +9,9 @@ ghost use Rattle.nets.specs.Processes.{technology_of};
 ghost use Rattle.nets.specs.Wires.{Tiled, Named};
 ghost use Rattle.nets.specs.Joins.{Bridges, Tied};
 
-use crate::process::{Join, Process};
-use crate::wire::wire_region;
+use crate::mask::Mask;
+use crate::process::Join;
 use groups::forest::Groups;
-use layout::rect::Rect;
 use region::regions::Region;
 use scanline::Op;
 use std::alloc::{AllocError, Global};
@@ -21,26 +19,6 @@ use tiles::cut::add_region;
 use tiles::find::find_tile;
 use tiles::link::link_tiles;
 use tiles::tile::Tile;
-
-// Where the joining layer covers wire of both layers, in tiles.
-fn bridge_tiles(
-    heap: Global,
-    boxes: &[Rect],
-    process: &Process,
-    join: Join,
-) -> Result<Vec<Tile>, AllocError>
-    requires { AllByRecursion (Within (2 ^ 40)) boxes.now }
-    ensures { IfOk result (λ v. Bridges (technology_of process.now) (covered boxes.now) join v.items) }
-{
-    let one = wire_region(heap, boxes, process, join.one)?;
-    let other = wire_region(heap, boxes, process, join.other)?;
-    let both = one.combine(heap, Op::And, &other)?;
-    let layer = Region::from_boxes(heap, boxes, join.by)?;
-    let region = both.combine(heap, Op::And, &layer)?;
-    let mut bridges = Vec::new(heap);
-    add_region(&mut bridges, join.by, &region)?;
-    Ok(bridges)
-}
 
 // Makes the tiles under the first square of each bridge one group.
 fn span(groups: &mut Groups, tiles: &[Tile], bridges: &[Tile], join: Join)
@@ -60,21 +38,31 @@ fn span(groups: &mut Groups, tiles: &[Tile], bridges: &[Tile], join: Join)
     }
 }
 
-// The tiles of wire in groups: in one exactly where one can go from one to the other.
-pub fn connect(
-    heap: Global,
-    boxes: &[Rect],
-    process: &Process,
-    tiles: &[Tile],
-) -> Result<Groups, AllocError>
-    requires within { AllByRecursion (Within (2 ^ 40)) boxes.now }
-    requires tiled { Tiled (wire (technology_of process.now) (covered boxes.now)) tiles.now }
-    ensures { IfOk result (λ g. (size g ≡ length tiles.now) × Named (technology_of process.now) (covered boxes.now) tiles.now (group g)) }
-{
-    let mut groups = link_tiles(heap, tiles)?;
-    for join in process.joins.as_slice() {
-        let bridges = bridge_tiles(heap, boxes, process, *join)?;
-        span(&mut groups, tiles, bridges.as_slice(), *join);
+impl<'b, 'p> Mask<'b, 'p> {
+    // Where the joining layer covers wire of both layers, in tiles.
+    fn bridge_tiles(&self, heap: Global, join: Join) -> Result<Vec<Tile>, AllocError>
+        ensures { IfOk result (λ v. Bridges (technology_of self.now.process.now) (covered self.now.boxes.rects.now) join v.items) }
+    {
+        let one = self.wire_region(heap, join.one)?;
+        let other = self.wire_region(heap, join.other)?;
+        let both = one.combine(heap, Op::And, &other)?;
+        let layer = Region::from_boxes(heap, self.boxes.rects, join.by)?;
+        let region = both.combine(heap, Op::And, &layer)?;
+        let mut bridges = Vec::new(heap);
+        add_region(&mut bridges, join.by, &region)?;
+        Ok(bridges)
     }
-    Ok(groups)
+
+    /// The tiles of wire in groups: in one exactly where one can go from one to the other.
+    pub fn connect(&self, heap: Global, tiles: &[Tile]) -> Result<Groups, AllocError>
+        requires { Tiled (wire (technology_of self.now.process.now) (covered self.now.boxes.rects.now)) tiles.now }
+        ensures { IfOk result (λ g. (size g ≡ length tiles.now) × Named (technology_of self.now.process.now) (covered self.now.boxes.rects.now) tiles.now (group g)) }
+    {
+        let mut groups = link_tiles(heap, tiles)?;
+        for join in self.process.joins.as_slice() {
+            let bridges = self.bridge_tiles(heap, *join)?;
+            span(&mut groups, tiles, &bridges, *join);
+        }
+        Ok(groups)
+    }
 }

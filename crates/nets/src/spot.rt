@@ -1,42 +1,32 @@
 // Spots in threes, layer, x and y, and the nets that they are on.
-ghost use Rattle.std.specs.Prelude.{◌≡◌, ◌*◌, true, length, MatchOption};
+ghost use Rattle.std.specs.Prelude.{◌≡◌, ◌*◌, length};
 ghost use Rattle.groups.specs.Names.{size, group};
 ghost use Rattle.groups.specs.Numbers.{seen, count, Fresh, Numbered};
-ghost use Rattle.layout.specs.Checks.{FirstAbove};
-ghost use Rattle.layout.specs.Numbers.{all_at_most};
 ghost use Rattle.tiles.specs.Tiles.{Ordered};
-ghost use Rattle.nets.specs.Limits.{max_spot};
-ghost use Rattle.nets.specs.Spots.{spots_ok, Misplaced, tile_of_spot};
+ghost use Rattle.nets.specs.Spots.{Placed, tile_of_spot};
 
 use crate::limit::{MAX_SPOT, MAX_SPOTS};
 use groups::forest::Groups;
 use groups::number::Numbers;
+use layout::number::first_above;
+use layout::refusal::Refusal;
 use tiles::find::find_tile;
 use tiles::tile::Tile;
 
-// The index of the first number that is too large.
-fn first_large(spots: &[u64]) -> Option<usize>
-    ensures { MatchOption result (all_at_most max_spot spots.now ≡ true) (FirstAbove max_spot spots.now) }
-{
-    for (i, x) in spots.iter().enumerate() {
-        if *x > MAX_SPOT {
-            return Some(i);
-        }
-    }
-    None
-}
-
-// Where the spots are at fault, if `asked` numbers are asked for.
-pub fn misplaced(spots: &[u64], asked: usize) -> Option<usize>
-    ensures { MatchOption result (spots_ok spots.now asked ≡ true) (Misplaced spots.now asked) }
+// Turns spots away that are at fault, if `asked` numbers are asked for.
+pub fn check_spots(spots: &[u64], asked: usize) -> Result<(), Refusal>
+    ensures { Placed spots.now asked result }
 {
     if asked > MAX_SPOTS {
-        return Some(spots.len());
+        return Err(Refusal::Spots(spots.len()));
     }
     if spots.len() != 3 * asked {
-        return Some(spots.len());
+        return Err(Refusal::Spots(spots.len()));
     }
-    first_large(spots)
+    match first_above(spots, MAX_SPOT) {
+        Some(place) => Err(Refusal::Spots(place)),
+        None => Ok(()),
+    }
 }
 
 // Numbers the spots in their order: 0 for none, the number of an earlier spot of the same group, else one more than

@@ -1,8 +1,11 @@
 -- A change of each band's line. Assumes nothing.
-use Rattle.std.proofs.Common.{◌≡◌, ℕ, suc, ◌+◌, ◌<◌, ◌≤◌, Bool, true, false, ◌&&◌, leb, List, [], ◌∷◌, ◌++◌, length, get_or, take, drop, sym, refl, ◌∙◌, subst, ⊎_elim, arith}
+use Rattle.std.proofs.Common.{◌≡◌, ℕ, suc, ◌+◌, ◌<◌, ◌≤◌, Bool, true, false, ◌&&◌, leb, List, [], ◌∷◌, ◌++◌, length, get_or, take, drop, sym, refl, ◌∙◌, subst, inl, inr, ⊎_elim, arith}
 use Rattle.std.proofs.lemmas.List.{take_more, take_all, drop_more}
 use Rattle.std.proofs.lemmas.Bool.{cases_lt, le-leb, lt-leb, false≢true}
 use Rattle.scanline.specs.Lines.{Widened, MovedRight, MovedLeft}
+use Rattle.scanline.specs.declared.lines.Line.{Line}
+use Rattle.scanline.specs.Edges.{edges_of}
+use Rattle.region.specs.Shifts.{Lined}
 use Rattle.scanline.specs.declared.band.Band.{Band}
 use Rattle.scanline.specs.Bands.{edges, line_at, Canonical, Added}
 use Rattle.scanline.proofs.Rows.{From, Canon, canonical-from, canon_canonical, canon_more, canon_push, line-late, line-push}
@@ -60,3 +63,10 @@ right-none n = record { holds = λ x l. sym (nothing (leb n x)) }
 
 pub left-none : (n : ℕ) → MovedLeft n [] []
 left-none n = record { holds = λ x. refl }
+
+-- what holds of nothing and of each line that is made holds in each row
+pub lined : (P : List ℕ → List ℕ → Type 0) (R : Line → Line → Type 0) → P [] [] → ((a b : Line) → R a b → P (edges_of a) (edges_of b)) → (es fs : List ℕ) → Lined R es fs → P es fs
+lined P R none some es fs h = elim h [
+  | inl k ↦ rw (k.0, k.1) none
+  | inr k ↦ rw (← k.2, ← k.3) (some k.0 k.1 k.4)
+]

@@ -1,5 +1,5 @@
 -- What one turn of the merge of two lists of bands keeps. Assumes nothing.
-use Rattle.std.proofs.Common.{◌≡◌, ℕ, suc, ◌+◌, ◌<◌, ◌≤◌, min, false, List, [], ◌∷◌, ◌++◌, length, get_or, drop, Some, None, sym, refl, ap, ◌∙◌, subst, ⊎_elim, arith}
+use Rattle.std.proofs.Common.{◌≡◌, ℕ, suc, ◌+◌, ◌<◌, ◌≤◌, min, false, cond, eqb, Option, List, [], ◌∷◌, ◌++◌, length, Some, None, refl, ap, ◌∙◌, subst, ⊎_elim, arith}
 use Rattle.std.proofs.lemmas.Bool.{cases_lt, cases_eq, eq-eqb, ne_eqb, le-leb, lt-leb}
 use Rattle.scanline.specs.declared.Op.{Op}
 use Rattle.scanline.specs.declared.Op.TheVariants.{And, Or, Without, Xor}
@@ -8,7 +8,24 @@ use Rattle.scanline.specs.Lines.{inside, applied}
 use Rattle.scanline.specs.declared.band.Band.{Band}
 use Rattle.scanline.specs.Bands.{edges, line_at, covers, Canonical, lastLine, Added}
 use Rattle.scanline.proofs.Rows.{From, Canon, canonical-from, canon_canonical, canon_push, canon_more, line_before, line-late, line-push, last-push}
-use Rattle.region.specs.Regions.{firstRow, lineAfter, bandsAfter, Combined}
+use Rattle.scanline.specs.Starts.{first_start, starting, past}
+use Rattle.region.specs.Regions.{Combined}
+
+-- the first row at which a band of either begins
+abbrev pub firstRow : List Band → List Band → Option ℕ
+firstRow = first_start (λ b. b.from)
+
+-- past a first band that begins at row y: its line, and the bands after it
+abbrev pub lineAfter : ℕ → List ℕ → List Band → List ℕ
+lineAfter y line [] = line
+lineAfter y line (b ∷ bs) = cond (eqb b.from y) (edges b) line
+
+abbrev pub bandsAfter : ℕ → List Band → List Band
+bandsAfter = past (λ b. b.from)
+
+pub line_here : (y : ℕ) (line : List ℕ) (bs : List Band) → lastLine line (starting (λ b. b.from) y bs) ≡ lineAfter y line bs
+line_here y line [] = refl
+line_here y line (b ∷ bs) = ⊎_elim (λ s. rw (eq-eqb b.from y s)) (λ n. rw (ne_eqb b.from y n)) (cases_eq b.from y)
 
 -- past row y
 
@@ -167,10 +184,3 @@ module _ (op : Op) (a b out left-a left-b : List Band) (line-a line-b : List ℕ
         (line-push [] out new row ∙ rw (le-leb new.from row (omega arith)) is)
         (last-push [] out new ∙ is)))
         d
-
--- a list that begins with a band at row y
-pub begins : (y : ℕ) (line : List ℕ) (bs : List Band) (b : Band) → 0 < length bs → b ≡ get_or bs 0 b → b.from ≡ y → (edges b ≡ lineAfter y line bs) × (drop 1 bs ≡ bandsAfter y bs)
-begins y line [] b l is s = absurd (omega arith)
-begins y line (c ∷ cs) b l is s =
-    let t : c.from ≡ y = sym (ap (λ v. v.from) is) ∙ s in
-    rw (eq-eqb c.from y t) (ap edges is, refl)

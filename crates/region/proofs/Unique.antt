@@ -1,8 +1,10 @@
 -- A set of squares has one canonical list of bands. Assumes nothing.
-use Rattle.std.proofs.Common.{◌≡◌, ℕ, zero, suc, ◌<◌, ◌≤◌, Bool, true, false, cond, not, eqb, leb, ◌⊎◌, List, [], ◌∷◌, length, get_or, drop, Decides, sym, refl, ap, ◌∙◌, inl, inr, ⊎_elim, arith}
+use Rattle.std.proofs.Common.{◌≡◌, ℕ, zero, suc, ◌<◌, ◌≤◌, Bool, true, false, cond, not, ◌&&◌, leb, List, [], ◌∷◌, length, get_or, Decides, sym, refl, ap, ◌∙◌, inl, inr, ⊎_elim, arith}
 use Rattle.std.specs.Str.{bytes_eq}
+use Rattle.std.specs.List.{AllZip}
+use lib.Pointwise.{pointwise}
 use Rattle.std.proofs.lemmas.Slice.Eq.{bytes_eq-Decides}
-use Rattle.std.proofs.lemmas.Bool.{cases_lt, cases_order, le-leb, and_parts, not-true, both_ways, leb-true, eq-eqb, eqb-true}
+use Rattle.std.proofs.lemmas.Bool.{cases_lt, cases_order, le-leb, and_parts, and_from, false≢true, not-true, both_ways, leb-true}
 use Rattle.scanline.specs.Lines.{inside, Sorted}
 use Rattle.scanline.proofs.Unique.{one_line}
 use Rattle.scanline.specs.declared.band.Band.{Band}
@@ -73,28 +75,28 @@ alike-line line (a ∷ xs) (b ∷ bs) y h = rw (h.0, h.1) (alike-line (cond (leb
 pub alike-covers : (a b : List Band) → Alike a b → (x y : ℕ) → covers a x y ≡ covers b x y
 alike-covers a b h x y = ap (λ es. inside es x) (alike-line [] a b y h)
 
--- the walk that compares two lists: what is left decides
-pub record Comparing (a b left-a left-b : List Band) : Type 0 where
-  pub on : Alike a b → Alike left-a left-b
-  pub back : Alike left-a left-b → Alike a b
+-- compared band by band
+pub pointwise-alike : (E : Band → Band → Bool) → ((a b : Band) → Decides (E a b) ((a.from ≡ b.from) × (edges a ≡ edges b))) → (xs ys : List Band) → Decides (pointwise E xs ys) (Alike xs ys)
+pointwise-alike E d [] [] = (λ t. tt, λ k. refl)
+pointwise-alike E d [] (b ∷ bs) = (λ t. absurd (false≢true t), λ k. absurd k)
+pointwise-alike E d (a ∷ xs) [] = (λ t. absurd (false≢true t), λ k. absurd k)
+pointwise-alike E d (a ∷ xs) (b ∷ bs) =
+    let e = d a b in
+    let f = pointwise-alike E d xs bs in
+    (λ t. let k = and_parts (E a b) (pointwise E xs bs) t in let h = e.0 k.0 in (h.0, h.1, f.0 k.1), λ k. and_from (E a b) (pointwise E xs bs) (e.1 (k.0, k.1)) (f.1 k.2))
 
-pub compare_none : (a b : List Band) → Comparing a b a b
-compare_none a b = record { on = λ h. h; back = λ h. h }
+-- copied band by band
+pub copied-alike : (R : Band → Band → Type 0) (xs ys : List Band) → AllZip R xs ys → ((a b : Band) → R a b → (a.from ≡ b.from) × (edges a ≡ edges b)) → Alike xs ys
+copied-alike R [] [] h d = tt
+copied-alike R [] (b ∷ bs) h d = absurd h
+copied-alike R (a ∷ xs) [] h d = absurd h
+copied-alike R (a ∷ xs) (b ∷ bs) h d = let k = d a b h.0 in (k.0, k.1, copied-alike R xs bs h.1 d)
 
-module _ (a b : List Band) (x y : Band) where
-  pub compare-more : (left-a left-b : List Band) → 0 < length left-a → 0 < length left-b → x ≡ get_or left-a 0 x → y ≡ get_or left-b 0 y → (x.from ≡ y.from) × (edges x ≡ edges y) → Comparing a b left-a left-b → Comparing a b (drop 1 left-a) (drop 1 left-b)
-  compare-more [] left-b l m p q e h = absurd (omega arith)
-  compare-more (c ∷ cs) [] l m p q e h = absurd (omega arith)
-  compare-more (c ∷ cs) (d ∷ ds) l m p q e h = record {
-    on = λ k. (h.on k).2;
-    back = λ k. h.back (ap (λ v. v.from) (sym p) ∙ e.0 ∙ ap (λ v. v.from) q, ap edges (sym p) ∙ e.1 ∙ ap edges q, k);
-  }
-
-pub compare_all : (a b left-a left-b : List Band) → (length left-a ≡ 0) ⊎ (length left-b ≡ 0) → Comparing a b left-a left-b → Decides (eqb (length left-a) (length left-b)) (Alike a b)
-compare_all a b [] [] l h = (λ t. h.back tt, λ k. eq-eqb 0 0 refl)
-compare_all a b [] (d ∷ ds) l h = (λ t. let z = eqb-true 0 (length (d ∷ ds)) t in absurd (omega arith), λ k. absurd (h.on k))
-compare_all a b (c ∷ cs) [] l h = (λ t. let z = eqb-true (length (c ∷ cs)) 0 t in absurd (omega arith), λ k. absurd (h.on k))
-compare_all a b (c ∷ cs) (d ∷ ds) l h = absurd (omega arith)
+pub alike-canonical : (line : List ℕ) (p : ℕ) (a b : List Band) → Alike a b → canonical line p a ≡ canonical line p b
+alike-canonical line p [] [] h = refl
+alike-canonical line p [] (b ∷ bs) h = absurd h
+alike-canonical line p (a ∷ xs) [] h = absurd h
+alike-canonical line p (a ∷ xs) (b ∷ bs) h = rw (h.0, h.1) (ap (λ t. leb p b.from && (not (bytes_eq line (edges b)) && t)) (alike-canonical (edges b) (suc b.from) xs bs h.2))
 
 -- no band begins past row m
 abbrev pub Upper : ℕ → List Band → Type 0

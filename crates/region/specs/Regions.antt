@@ -1,24 +1,9 @@
 -- Regions combined and compared. Assumes nothing.
-use Rattle.std.specs.Prelude.{◌≡◌, ℕ, min, cond, List, [], ◌∷◌, Some, None, Option, ◌==◌}
+use Rattle.std.specs.Prelude.{◌≡◌, ℕ, List, [], ◌∷◌}
 use Rattle.scanline.specs.declared.Op.{Op}
 use Rattle.scanline.specs.declared.band.Band.{Band}
 use Rattle.scanline.specs.Lines.{applied}
 use Rattle.scanline.specs.Bands.{edges, covers, Canonical}
-
-abbrev pub firstRow : List Band → List Band → Option ℕ
-firstRow [] [] = None
-firstRow [] (b ∷ bs) = Some b.from
-firstRow (a ∷ xs) [] = Some a.from
-firstRow (a ∷ xs) (b ∷ bs) = Some (min a.from b.from)
-
--- past a first band that begins at row y: its line, and the bands after it
-abbrev pub lineAfter : ℕ → List ℕ → List Band → List ℕ
-lineAfter y line [] = line
-lineAfter y line (b ∷ bs) = cond (b.from == y) (edges b) line
-
-abbrev pub bandsAfter : ℕ → List Band → List Band
-bandsAfter y [] = []
-bandsAfter y (b ∷ bs) = cond (b.from == y) bs (b ∷ bs)
 
 pub record Combined (op : Op) (a b r : List Band) : Type 0 where
   pub holds : (x y : ℕ) → covers r x y ≡ applied op (covers a x y) (covers b x y)

@@ -1,8 +1,14 @@
 -- Regions moved and widened in the four directions. Assumes nothing.
-use Rattle.std.specs.Prelude.{◌≡◌, ℕ, ◌+◌, ◌-◌, ◌^◌, ◌<◌, ◌≤◌, Bool, true, ◌&&◌, ◌⊎◌, List, Decides, nat_le}
+use Rattle.std.specs.Prelude.{◌≡◌, ℕ, ◌+◌, ◌-◌, ◌^◌, ◌<◌, ◌≤◌, Bool, true, ◌&&◌, ◌⊎◌, List, [], Decides, nat_le}
 use Rattle.scanline.specs.Lines.{Near, Room}
+use Rattle.scanline.specs.declared.lines.Line.{Line}
+use Rattle.scanline.specs.Edges.{edges_of}
 use Rattle.scanline.specs.declared.band.Band.{Band}
 use Rattle.scanline.specs.Bands.{covers}
+
+-- two lines of a row: neither holds anything, or one is made of the other
+abbrev pub Lined : (Line → Line → Type 0) → List ℕ → List ℕ → Type 0
+Lined R es fs = ((es ≡ []) × (fs ≡ [])) ⊎ ((l : Line) × (m : Line) × (edges_of l ≡ es) × (edges_of m ≡ fs) × R l m)
 
 -- nothing changes from some row on, and n more can still be named by a u64
 pub record RowRoom (n : ℕ) (a : List Band) : Type 0 where

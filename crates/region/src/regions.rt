@@ -1,18 +1,24 @@
 // A set of squares of a grid.
-ghost use Rattle.std.specs.Prelude.{◌≡◌, IfOk};
-ghost use Rattle.scanline.specs.Bands.{Canonical};
-ghost use Rattle.region.specs.Regions.{Combined};
+ghost use Rattle.std.specs.Prelude.{◌≡◌, ℕ};
+ghost use Rattle.scanline.specs.Bands.{Canonical, covers};
 
-use super::merge::merge_bands;
-use scanline::Op;
 use scanline::band::Band;
-use scanline::lines::Line;
-use std::alloc::{AllocError, Global};
+use std::alloc::AllocError;
 
-#[derive(Drop)]
+// Its bands are in normal form, so that equal bands are the same squares.
+#[derive(Drop, PartialEq, Eq)]
 pub struct Region {
     pub(crate) bands: Vec<Band>,
     ghost canonical: { Canonical bands.items },
+}
+
+impl Clone for Region {
+    ghost is_clone = { λ a b. (x y : ℕ) → covers b.bands.items x y ≡ covers a.bands.items x y };
+
+    fn clone(&self) -> Result<Region, AllocError> {
+        let bands = self.bands.clone()?;
+        Ok(Region { bands })
+    }
 }
 
 impl Region {
@@ -20,20 +26,5 @@ impl Region {
         ensures { result.now ≡ self.now.bands.items }
     {
         self.bands.as_slice()
-    }
-
-    // The squares that `op` picks by whether they are in each of the two.
-    pub fn combine(&self, heap: Global, op: Op, other: &Region) -> Result<Region, AllocError>
-        ensures { IfOk result (λ v. Combined op self.now.bands.items other.now.bands.items v.bands.items) }
-    {
-        let none = Line::empty(heap);
-        let bands = merge_bands(
-            heap,
-            op,
-            &none,
-            self.bands.as_slice(),
-            other.bands.as_slice(),
-        )?;
-        Ok(Region { bands })
     }
 }

@@ -1,9 +1,8 @@
 // Regions made, and looked into.
-ghost use Rattle.std.specs.Prelude.{◌≡◌, ℕ, ◌^◌, ◌<◌, true, false, not, ◌&&◌, [], IfOk, nat_le, nat_lt};
+ghost use Rattle.std.specs.Prelude.{◌≡◌, ℕ, ◌^◌, ◌<◌, false, not, ◌&&◌, IfOk, nat_le, nat_lt};
 ghost use Rattle.std.specs.List.{AllByRecursion};
 ghost use Rattle.layout.specs.Rects.{Within, covered};
-ghost use Rattle.scanline.specs.Edges.{edges_of};
-ghost use Rattle.scanline.specs.Bands.{covers, line_at, Canonical};
+ghost use Rattle.scanline.specs.Bands.{covers};
 ghost use Rattle.region.specs.Firsts.{FirstOf};
 
 use super::regions::Region;
@@ -14,36 +13,12 @@ use scanline::lines::Line;
 use scanline::sweep::sweep;
 use std::alloc::{AllocError, Global};
 
-// The line of row `y`.
-fn line_at<'a>(none: &'a Line, bands: &'a [Band], y: u64) -> &'a Line
-    requires none { edges_of none.now ≡ [] }
-    requires bands { Canonical bands.now }
-    ensures { edges_of result.now ≡ line_at [] bands.now y }
-{
-    let mut line = none;
-    for band in bands {
-        if band.from > y {
-            return line;
-        }
-        line = &band.line;
-    }
-    line
-}
-
 impl Region {
     pub fn empty(heap: Global) -> Region
         ensures { (x y : ℕ) → covers result.bands.items x y ≡ false }
     {
         let bands = Vec::new(heap);
         Region { bands }
-    }
-
-    pub fn copy(&self, heap: Global) -> Result<Region, AllocError>
-        ensures { IfOk result (λ v. (x y : ℕ) → covers v.bands.items x y ≡ covers self.now.bands.items x y) }
-    {
-        let none = Region::empty(heap);
-        let out = self.combine(heap, Op::Without, &none)?;
-        Ok(out)
     }
 
     // The squares from (left, top) up to (right, bottom), without these two edges.
@@ -59,12 +34,14 @@ impl Region {
         ensures { IfOk result (λ v. (x y : ℕ) → covers v.bands.items x y ≡ (nat_le left x && nat_lt x right && (nat_le top y && nat_lt y bottom))) }
     {
         let line = Line::interval(heap, left, right)?;
-        let mut bands = Vec::new(heap);
-        bands.push(Band { from: top, line })?;
-        bands.push(Band {
-            from: bottom,
-            line: Line::empty(heap),
-        })?;
+        let none = Line::empty(heap);
+        let bands = vec![in heap;
+            Band { from: top, line },
+            Band {
+                from: bottom,
+                line: none
+            },
+        ]?;
         Ok(Region { bands })
     }
 
@@ -82,8 +59,7 @@ impl Region {
         ensures { IfOk result (λ v. (x y : ℕ) → covers v.bands.items x y ≡ (nat_le left x && nat_le top y)) }
     {
         let line = Line::ray(heap, left)?;
-        let mut bands = Vec::new(heap);
-        bands.push(Band { from: top, line })?;
+        let bands = vec![in heap; Band { from: top, line }]?;
         Ok(Region { bands })
     }
 
@@ -92,22 +68,23 @@ impl Region {
         ensures { IfOk result (λ v. (x y : ℕ) → covers v.bands.items x y ≡ not (covers self.now.bands.items x y)) }
     {
         let all = Region::quadrant(heap, 0, 0)?;
-        let out = all.combine(heap, Op::Without, self)?;
-        Ok(out)
+        all.combine(heap, Op::Without, self)
     }
 
-    pub fn contains(&self, heap: Global, x: u64, y: u64) -> bool
+    pub fn contains(&self, x: u64, y: u64) -> bool
         ensures { result ≡ covers self.now.bands.items x y }
     {
-        let none = Line::empty(heap);
-        line_at(&none, self.bands.as_slice(), y).contains(x)
+        match self.bands.partition_point(|band| band.from <= y) {
+            0 => false,
+            begun => self.bands[begun - 1].line.contains(x),
+        }
     }
 
     // The first square, by rows: in normal form it begins the first band.
     pub fn first(&self) -> Option<(u64, u64)>
         ensures { FirstOf (covers self.now.bands.items) result }
     {
-        match self.bands.as_slice() {
+        match self.bands() {
             [band, ..] => match band.line.edges() {
                 [x, ..] => Some((*x, band.from)),
                 [] => None,

@@ -15,7 +15,7 @@ use Rattle.rules.specs.Rules.{squares, breaks, surrounded}
 use Rattle.rules.specs.Numbers.{max_number}
 use Rattle.rules.specs.Terms.{term_region, Names}
 use Rattle.rules.specs.Layers.{shows}
-use Rattle.rules.specs.Values.{values, value, Sound, Over, among, Shown, done_at, TermDone, Evaluated}
+use Rattle.rules.specs.Values.{values, value, Over, among, Shown, done_at, TermDone, Evaluated}
 use Rattle.rules.specs.declared.term.Term.{Term}
 use Rattle.rules.specs.declared.term.Term.TheVariants.{Layer, And, Or, Without, Grown}
 use Rattle.rules.specs.declared.rule.Rule.{Rule}
@@ -73,10 +73,10 @@ module _ (d : Drawing) (m : ℕ) (ts : List Term) (len : ℕ) (settles : (l : �
   of-term : (n : ℕ) (t : Term) → Names n t → ((i : ℕ) → i < n → Settled (reach m i) (squares d (get_or (values ts n) i (rules.layer 0)))) → Settled (reach m n) (squares d (term_region (λ i. get_or (values ts n) i (rules.layer 0)) t))
   unfolding squares reach
   of-term n (Layer l) h g = settled_more m (m + 256 * suc n) (d l) (omega arith) (settles l)
-  of-term n (And a b) h g = settled_two (λ p q. p && q) _ _ _ (settled_more _ (m + 256 * suc n) _ (omega (arith, h.0)) (g a h.0)) (settled_more _ (m + 256 * suc n) _ (omega (arith, h.1)) (g b h.1))
-  of-term n (Or a b) h g = settled_two (λ p q. p || q) _ _ _ (settled_more _ (m + 256 * suc n) _ (omega (arith, h.0)) (g a h.0)) (settled_more _ (m + 256 * suc n) _ (omega (arith, h.1)) (g b h.1))
-  of-term n (Without a b) h g = settled_two (λ p q. p && not q) _ _ _ (settled_more _ (m + 256 * suc n) _ (omega (arith, h.0)) (g a h.0)) (settled_more _ (m + 256 * suc n) _ (omega (arith, h.1)) (g b h.1))
-  of-term n (Grown k a) h g = settled_more (m + 256 * suc a + k) (m + 256 * suc n) _ (omega (arith, h.0, h.1)) (settled_near k (m + 256 * suc a) _ (g a h.1))
+  of-term n (And a b) h g = settled_two (λ p q. p && q) _ _ _ (settled_more _ (m + 256 * suc n) _ (omega (arith, h.1.0)) (g a h.1.0)) (settled_more _ (m + 256 * suc n) _ (omega (arith, h.1.1.0)) (g b h.1.1.0))
+  of-term n (Or a b) h g = settled_two (λ p q. p || q) _ _ _ (settled_more _ (m + 256 * suc n) _ (omega (arith, h.1.0)) (g a h.1.0)) (settled_more _ (m + 256 * suc n) _ (omega (arith, h.1.1.0)) (g b h.1.1.0))
+  of-term n (Without a b) h g = settled_two (λ p q. p && not q) _ _ _ (settled_more _ (m + 256 * suc n) _ (omega (arith, h.1.0)) (g a h.1.0)) (settled_more _ (m + 256 * suc n) _ (omega (arith, h.1.1.0)) (g b h.1.1.0))
+  of-term n (Grown k a) h g = settled_more (m + 256 * suc a + k) (m + 256 * suc n) _ (omega (arith, h.0, h.1.0)) (settled_near k (m + 256 * suc a) _ (g a h.1.0))
 
   below : (k n : ℕ) → n < k → n < len → Settled (reach m n) (squares d (value ts n))
   below zero n l q = absurd (omega arith)
@@ -97,13 +97,13 @@ module _ (d : Drawing) (m : ℕ) (s : Layers) (ts : List Term) (len : ℕ) (show
   of-done : (e : Region) (t : Term) (v : Region) → Names n t → Over (among need) t → ((k : ℕ) → t ≡ Layer k → (x y : ℕ) → shows s k x y ≡ d k x y) → TermDone s done t v → (x y : ℕ) → covers (vec_items v.bands) x y ≡ squares d (term_region (λ i. get_or (values ts n) i (rules.layer 0)) t) x y
   unfolding squares
   of-done e (Layer k) v q o w td x y = td x y ∙ w k refl x y
-  of-done e (And a b) v q o w td x y = td e x y ∙ ap (λ f. f x y && done_at done b e x y) (earlier a e q.0 o.0) ∙ ap (λ f. squares d (get_or (values ts n) a (rules.layer 0)) x y && f x y) (earlier b e q.1 o.1)
-  of-done e (Or a b) v q o w td x y = td e x y ∙ ap (λ f. f x y || done_at done b e x y) (earlier a e q.0 o.0) ∙ ap (λ f. squares d (get_or (values ts n) a (rules.layer 0)) x y || f x y) (earlier b e q.1 o.1)
-  of-done e (Without a b) v q o w td x y = td e x y ∙ ap (λ f. f x y && not (done_at done b e x y)) (earlier a e q.0 o.0) ∙ ap (λ f. squares d (get_or (values ts n) a (rules.layer 0)) x y && not (f x y)) (earlier b e q.1 o.1)
+  of-done e (And a b) v q o w td x y = td e x y ∙ ap (λ f. f x y && done_at done b e x y) (earlier a e q.1.0 o.0) ∙ ap (λ f. squares d (get_or (values ts n) a (rules.layer 0)) x y && f x y) (earlier b e q.1.1.0 o.1.0)
+  of-done e (Or a b) v q o w td x y = td e x y ∙ ap (λ f. f x y || done_at done b e x y) (earlier a e q.1.0 o.0) ∙ ap (λ f. squares d (get_or (values ts n) a (rules.layer 0)) x y || f x y) (earlier b e q.1.1.0 o.1.0)
+  of-done e (Without a b) v q o w td x y = td e x y ∙ ap (λ f. f x y && not (done_at done b e x y)) (earlier a e q.1.0 o.0) ∙ ap (λ f. squares d (get_or (values ts n) a (rules.layer 0)) x y && not (f x y)) (earlier b e q.1.1.0 o.1.0)
   of-done e (Grown k a) v q o w td x y =
-      let p = earlier a e q.1 o in
-      let st : Settled (reach m a) (squares d (get_or (values ts n) a (rules.layer 0))) = subst (λ r. Settled (reach m a) (squares d r)) (sym (value-at ts n a q.1)) (settled-value d m ts len shown.settles names a (omega (arith, q.1))) in
-      (subst (λ f. Exactly (2 * k) f (near k f) (covers (vec_items v.bands))) p (td e)).holds (reach m a) (fits-at a k q.1 q.0) st x y
+      let p = earlier a e q.1.0 o.0 in
+      let st : Settled (reach m a) (squares d (get_or (values ts n) a (rules.layer 0))) = subst (λ r. Settled (reach m a) (squares d r)) (sym (value-at ts n a q.1.0)) (settled-value d m ts len shown.settles names a (omega (arith, q.1.0))) in
+      (subst (λ f. Exactly (2 * k) f (near k f) (covers (vec_items v.bands))) p (td e)).holds (reach m a) (fits-at a k q.1.0 q.0) st x y
 
   pub evaluated-more : (done' : List Region) (v : Region) → ((k : ℕ) (e : Region) → k < n → get_or done' k e ≡ get_or done k e) → ((e : Region) → get_or done' n e ≡ v) → Names n (get_or ts n (Layer 0)) → (among need n ≡ true → Over (among need) (get_or ts n (Layer 0))) → (among need n ≡ true → TermDone s done (get_or ts n (Layer 0)) v) → Evaluated d ts need (n + 1) done'
   evaluated-more done' v early new q o td = record {
@@ -121,29 +121,29 @@ pub evaluated_none : (d : Drawing) (ts : List Term) (need : List Bool) (done : L
 evaluated_none d ts need done = record { holds = λ i x y e l t. absurd (omega arith) }
 
 -- a rule of regions that are evaluated
-module _ (d : Drawing) (m : ℕ) (s : Layers) (r : Rule) (sound : Sound r) (shown : Shown d m s r.terms r.len) (i : ℕ) (l : i < r.len) (A : Squares) (is : (x y : ℕ) → A x y ≡ squares d (value r.terms i) x y) where
-  path : A ≡ squares d (value r.terms i)
+module _ (d : Drawing) (m : ℕ) (s : Layers) (r : Rule) (shown : Shown d m s r.terms.items (length r.terms.items)) (i : ℕ) (l : i < (length r.terms.items)) (A : Squares) (is : (x y : ℕ) → A x y ≡ squares d (value r.terms.items i) x y) where
+  path : A ≡ squares d (value r.terms.items i)
   path = same-squares A _ is
 
-  settled : Settled (reach m i) (squares d (value r.terms i))
-  settled = settled-value d m r.terms r.len shown.settles sound.names i l
+  settled : Settled (reach m i) (squares d (value r.terms.items i))
+  settled = settled-value d m r.terms.items (length r.terms.items) shown.settles r.sound.names i l
 
   fits : (k : ℕ) → k ≤ max_number → reach m i + 2 * k < 2 ^ 64
   unfolding reach
-  fits k q = omega (arith, shown.near, sound.few)
+  fits k q = omega (arith, shown.near, r.sound.few)
 
-  pub wide_is : (R : Squares) (k : ℕ) → k ≤ max_number → Exactly (2 * k) A (λ x y. A x y && not (in_a_block k A x y)) R → (x y : ℕ) → R x y ≡ breaks d (rules.wide (value r.terms i) k) x y
+  pub wide_is : (R : Squares) (k : ℕ) → k ≤ max_number → Exactly (2 * k) A (λ x y. A x y && not (in_a_block k A x y)) R → (x y : ℕ) → R x y ≡ breaks d (rules.wide (value r.terms.items i) k) x y
   unfolding breaks
   wide_is R k q h x y = (subst (λ f. Exactly (2 * k) f (λ x y. f x y && not (in_a_block k f x y)) R) path h).holds (reach m i) (fits k q) settled x y
 
-  pub apart-is : (R : Squares) (k : ℕ) → k ≤ max_number → Exactly (2 * k) A (λ x y. not (A x y) && not (free_block k A x y)) R → (x y : ℕ) → R x y ≡ breaks d (rules.apart (value r.terms i) k) x y
+  pub apart-is : (R : Squares) (k : ℕ) → k ≤ max_number → Exactly (2 * k) A (λ x y. not (A x y) && not (free_block k A x y)) R → (x y : ℕ) → R x y ≡ breaks d (rules.apart (value r.terms.items i) k) x y
   unfolding breaks
   apart-is R k q h x y = (subst (λ f. Exactly (2 * k) f (λ x y. not (f x y) && not (free_block k f x y)) R) path h).holds (reach m i) (fits k q) settled x y
 
-  pub inside_is : (R B : Squares) (j k : ℕ) → ((x y : ℕ) → B x y ≡ squares d (value r.terms j) x y) → k ≤ max_number → Exactly (2 * k) A (λ x y. B x y && not (surrounded k A x y)) R → (x y : ℕ) → R x y ≡ breaks d (rules.inside (value r.terms j) (value r.terms i) k) x y
+  pub inside_is : (R B : Squares) (j k : ℕ) → ((x y : ℕ) → B x y ≡ squares d (value r.terms.items j) x y) → k ≤ max_number → Exactly (2 * k) A (λ x y. B x y && not (surrounded k A x y)) R → (x y : ℕ) → R x y ≡ breaks d (rules.inside (value r.terms.items j) (value r.terms.items i) k) x y
   unfolding breaks
-  inside_is R B j k b q h x y = (subst (λ f. Exactly (2 * k) f (λ x y. B x y && not (surrounded k f x y)) R) path h).holds (reach m i) (fits k q) settled x y ∙ ap (λ v. v && not (surrounded k (squares d (value r.terms i)) x y)) (b x y)
+  inside_is R B j k b q h x y = (subst (λ f. Exactly (2 * k) f (λ x y. B x y && not (surrounded k f x y)) R) path h).holds (reach m i) (fits k q) settled x y ∙ ap (λ v. v && not (surrounded k (squares d (value r.terms.items i)) x y)) (b x y)
 
-  pub never-is : (R : Squares) → ((x y : ℕ) → R x y ≡ A x y) → (x y : ℕ) → R x y ≡ breaks d (rules.never (value r.terms i)) x y
+  pub never-is : (R : Squares) → ((x y : ℕ) → R x y ≡ A x y) → (x y : ℕ) → R x y ≡ breaks d (rules.never (value r.terms.items i)) x y
   unfolding breaks
   never-is R h x y = h x y ∙ is x y

@@ -1,10 +1,11 @@
 -- The rule that is held is the rule of its numbers, and boxes draw what settles. Assumes nothing.
-use Rattle.std.proofs.Common.{◌≡◌, ℕ, zero, suc, ◌+◌, ◌-◌, ◌*◌, ◌^◌, ◌<◌, ◌≤◌, Bool, false, List, [], ◌∷◌, ◌++◌, length, get_or, drop, Some, None, Option, sym, refl, ap, ◌∙◌, arith}
+use Rattle.std.proofs.Common.{◌≡◌, ℕ, zero, suc, ◌+◌, ◌-◌, ◌*◌, ◌^◌, ◌<◌, ◌≤◌, Bool, false, List, [], ◌∷◌, ◌++◌, length, get_or, drop, Some, None, Option, sym, refl, ap, ◌∙◌, subst, arith}
 use Rattle.std.specs.List.{AllByRecursion}
 use Rattle.std.proofs.lemmas.List.{drop_more, drop_all}
 use Rattle.std.proofs.lemmas.Bool.{le-ltb}
 use Rattle.std.proofs.lemmas.Bool.Decides.{nat_tests}
 use Rattle.layout.specs.Layout.{Drawing}
+use Rattle.layout.specs.Numbers.{layout_in}
 use Rattle.layout.specs.Rects.{in_rect, covered, Within}
 use Rattle.layout.specs.declared.rect.Rect.{Rect}
 use Rattle.region.specs.Firsts.{Squares, FirstOf}
@@ -14,7 +15,7 @@ use Rattle.rules.specs.Rules.{breaks}
 use Rattle.rules.specs.Numbers.{regions_from, regions_in, meant, rule_in, number_fault, or_else, further, Taken}
 use Rattle.rules.specs.Tests.{test_rule, TermsRead, RuleRead}
 use Rattle.rules.specs.Layers.{Swept}
-use Rattle.rules.specs.Values.{values, value, held_rule, Sound, Shown}
+use Rattle.rules.specs.Values.{values, value, held_rule, Shown}
 use Rattle.rules.specs.Judged.{LayersMarked}
 use Rattle.rules.specs.declared.term.Term.{Term}
 use Rattle.rules.specs.declared.rule.Rule.{Rule}
@@ -51,24 +52,21 @@ meant_is : (xs : List ℕ) (ts : List Term) (len back : ℕ) → regions_in xs �
 meant_is xs ts len back e l b =
     ap (λ v. get_or v (length v - back) (rules.layer 0)) e ∙ ap (λ j. get_or (values ts len) (j - back) (rules.layer 0)) (values-long ts len) ∙ value-at ts len (len - back) (omega arith)
 
-pub sound_is : (xs : List ℕ) (k n : ℕ) (r : Rule) → RuleRead xs k n r → Sound r
-sound_is xs k n r h = record { enough = h.enough; few = h.few; long = h.long; names = λ i l. (h.terms i l).names; mild = h.test.mild }
-
 pub rule-is : (xs : List ℕ) (k n : ℕ) (r : Rule) → RuleRead xs k n r → rule_in xs k n ≡ held_rule r
 rule-is xs k n r h =
-    let e = regions-are xs r.terms r.len h.length_is h.terms in
-    let l : 0 < r.len = omega (arith, h.enough, needs-some r.test) in
+    let e = regions-are xs r.terms.items (length r.terms.items) h.length_is h.terms in
+    let l : 0 < (length r.terms.items) = omega (arith, r.sound.enough, needs-some r.test) in
     h.test.same (meant 2 xs) (meant 1 xs)
-    ∙ ap (λ v. test_rule v (meant 1 xs) r.test) (meant_is xs r.terms r.len 2 e l (omega arith))
-    ∙ ap (λ v. test_rule (value r.terms (r.len - 2)) v r.test) (meant_is xs r.terms r.len 1 e l (omega arith))
+    ∙ ap (λ v. test_rule v (meant 1 xs) r.test) (meant_is xs r.terms.items (length r.terms.items) 2 e l (omega arith))
+    ∙ ap (λ v. test_rule (value r.terms.items ((length r.terms.items) - 2)) v r.test) (meant_is xs r.terms.items (length r.terms.items) 1 e l (omega arith))
 
 pub taken_is : (xs : List ℕ) (k n : ℕ) (r : Rule) → RuleRead xs k n r → Taken xs k n
 taken_is xs k n r h = record {
-  many = r.len;
+  many = (length r.terms.items);
   length_is = h.length_is;
-  enough = omega (arith, h.test.many, h.enough);
-  few = h.few;
-  sound = ap (λ o. or_else o (further (3 * r.len) (number_fault k n))) h.sound ∙ ap (further (3 * r.len)) h.test.sound;
+  enough = omega (arith, h.test.many, r.sound.enough);
+  few = r.sound.few;
+  sound = ap (λ o. or_else o (further (3 * (length r.terms.items)) (number_fault k n))) h.sound ∙ ap (further (3 * (length r.terms.items))) h.test.sound;
 }
 
 -- boxes that end by m cover nothing from there on
@@ -88,7 +86,7 @@ settled_covered m qs h l = record {
   rows = λ x y k. past_row m qs l x y h k ∙ sym (past_row m qs l x m h (omega arith));
 }
 
-pub shown_is : (qs : List Rect) (s : Layers) (r : Rule) (before wanted : List Bool) → AllByRecursion (Within (2 ^ 40)) qs → LayersMarked r before wanted → Swept (covered qs) wanted s → Shown (covered qs) (2 ^ 40) s r.terms r.len
+pub shown_is : (qs : List Rect) (s : Layers) (r : Rule) (before wanted : List Bool) → AllByRecursion (Within (2 ^ 40)) qs → LayersMarked r before wanted → Swept (covered qs) wanted s → Shown (covered qs) (2 ^ 40) s r.terms.items (length r.terms.items)
 shown_is qs s r before wanted h m w = record {
   near = omega arith;
   settles = settled_covered (2 ^ 40) qs h;
@@ -101,3 +99,12 @@ first-same s t (Some p) e h = (sym (e p.0 p.1) ∙ h.0, λ u v k. sym (e u v) �
 
 pub same-drawing : (d e : Drawing) → ((l x y : ℕ) → d l x y ≡ e l x y) → d ≡ e
 same-drawing d e h = λ i l x y. h l x y i
+
+-- what is judged on the layers of boxes that draw a layout
+pub judged_is : (xs rs : List ℕ) (k n : ℕ) (qs : List Rect) (r : Rule) (s : Layers) (before wanted : List Bool) (o : Option (ℕ × ℕ))
+    → ((l x y : ℕ) → covered qs l x y ≡ layout_in xs l x y) → AllByRecursion (Within (2 ^ 40)) qs → RuleRead rs k n r → LayersMarked r before wanted → Swept (covered qs) wanted s
+    → ((d : Drawing) (m : ℕ) → Shown d m s r.terms.items (length r.terms.items) → FirstOf (breaks d (held_rule r)) o) → FirstOf (breaks (layout_in xs) (rule_in rs k n)) o
+judged_is xs rs k n qs r s before wanted o draws near read marked swept first =
+    let d : covered qs ≡ layout_in xs = same-drawing _ _ draws in
+    let f = first (covered qs) (2 ^ 40) (shown_is qs s r before wanted near marked swept) in
+    subst (λ w. FirstOf (breaks (layout_in xs) w) o) (sym (rule-is rs k n r read)) (subst (λ e. FirstOf (breaks e (held_rule r)) o) d f)

@@ -2,6 +2,7 @@
 pub mod Rules
 pub mod Numbers
 pub mod Terms
+pub mod Sound
 pub mod Tests
 pub mod Layers
 pub mod Values

@@ -1,10 +1,14 @@
 -- A rule as it is held: terms, and what is asked of the meant ones. Assumes nothing: these are definitions.
-use Rattle.std.specs.Prelude.{◌≡◌, ℕ, ◌+◌, ◌*◌, ◌<◌, ◌≤◌, List, length, Some, None, Ok, Err, Result, ◌==◌, slice_index, slice_index_or}
+use Rattle.std.specs.Prelude.{◌≡◌, ℕ, ◌+◌, ◌*◌, ◌<◌, ◌≤◌, ◌⊎◌, List, length, Some, None, Ok, Err, Result, ◌==◌, slice_index, slice_index_or}
 use Rattle.layout.specs.Layout.{pick}
 use Rattle.layout.specs.declared.refusal.Refusal.{Refusal}
 use Rattle.rules.specs.Rules as rules
-use Rattle.rules.specs.Numbers.{number_fault, least_regions, max_regions, max_number, regions_fault, RuleTurned}
+use Rattle.rules.specs.Numbers.{number_fault, least_regions, max_number, regions_fault, further, RuleTurned}
 use Rattle.rules.specs.Terms.{Read}
+use Rattle.rules.specs.Sound.{Mild, needs}
+use Rattle.layout.specs.Refusals.{place_of}
+use Rattle.layout.specs.declared.refusal.Refusal.TheVariants.{Region}
+use Rattle.arrayvec.specs.ArrayVec.{ArrayVec}
 use Rattle.rules.specs.declared.term.Term.{Term}
 use Rattle.rules.specs.declared.term.Term.TheVariants.{Layer}
 use Rattle.rules.specs.declared.rule.Test.{Test}
@@ -18,47 +22,35 @@ test_rule a b (Apart n) = rules.apart b n
 test_rule a b (Inside n) = rules.inside a b n
 test_rule a b (Never) = rules.never b
 
--- its number is small, and not 0 where the rule needs one
-abbrev pub Mild : Test → Type 0
-Mild (Wide n) = (0 < n) × (n ≤ max_number)
-Mild (Apart n) = (0 < n) × (n ≤ max_number)
-Mild (Inside n) = n ≤ max_number
-Mild (Never) = Unit {0}
-
--- how many terms a test is of
-abbrev pub needs : Test → ℕ
-needs (Wide n) = 1
-needs (Apart n) = 1
-needs (Inside n) = 2
-needs (Never) = 1
-
 pub record TestRead (k n : ℕ) (t : Test) : Type 0 where
   pub sound : number_fault k n ≡ None
   pub mild : Mild t
   pub many : needs t ≡ least_regions k
   pub same : (a b : rules.Region) → pick {A = rules.Rule} (k == 0) (rules.wide b n) (pick (k == 1) (rules.apart b n) (pick (k == 2) (rules.inside a b n) (rules.never b))) ≡ test_rule a b t
 
--- the test of two numbers, or the first of them at fault
-abbrev pub Tests : (k n : ℕ) → Result Test ℕ → Type 0
-Tests k n (Ok t) = TestRead k n t
-Tests k n (Err p) = number_fault k n ≡ Some p
+-- a small number that isn't 0, or that it is no such number
+abbrev pub Side : (number place : ℕ) → Result ℕ Refusal → Type 0
+Side x p (Ok y) = (0 < x) × (x ≤ max_number) × (y ≡ x)
+Side x p (Err e) = ((x ≡ 0) ⊎ (max_number < x)) × (e ≡ Region p)
+
+-- the test of two numbers, or the place of the first of them at fault
+abbrev pub Tests : (k n at : ℕ) → Result Test Refusal → Type 0
+Tests k n at (Ok t) = TestRead k n t
+Tests k n at (Err e) = (e ≡ Region (place_of e)) × (further at (number_fault k n) ≡ Some (place_of e))
 
 -- the first m terms are those of the numbers
 abbrev pub TermsRead : (xs : List ℕ) (m : ℕ) → List Term → Type 0
 TermsRead xs m ts = (i : ℕ) → i < m → Read i (slice_index xs (3 * i)) (slice_index xs (3 * i + 1)) (slice_index xs (3 * i + 2)) (slice_index_or ts i (Layer 0))
 
-abbrev pub Terms : (xs : List ℕ) (m : ℕ) → Result (List Term) ℕ → Type 0
-Terms xs m (Ok ts) = (length ts ≡ max_regions) × (regions_fault xs m ≡ None) × TermsRead xs m ts
-Terms xs m (Err p) = regions_fault xs m ≡ Some p
+abbrev pub Terms : (xs : List ℕ) (m : ℕ) → Result (ArrayVec Term) Refusal → Type 0
+Terms xs m (Ok ts) = (length ts.items ≡ m) × (regions_fault xs m ≡ None) × TermsRead xs m ts.items
+Terms xs m (Err e) = (e ≡ Region (place_of e)) × (regions_fault xs m ≡ Some (place_of e))
 
 pub record RuleRead (xs : List ℕ) (k n : ℕ) (r : Rule) : Type 0 where
-  pub length_is : length xs ≡ 3 * r.len
-  pub enough : needs r.test ≤ r.len
-  pub few : r.len ≤ max_regions
-  pub long : length r.terms ≡ max_regions
-  pub terms : TermsRead xs r.len r.terms
+  pub length_is : length xs ≡ 3 * length r.terms.items
+  pub terms : TermsRead xs (length r.terms.items) r.terms.items
   pub test : TestRead k n r.test
-  pub sound : regions_fault xs r.len ≡ None
+  pub sound : regions_fault xs (length r.terms.items) ≡ None
 
 -- the rule of numbers that are taken, or why they are turned away
 abbrev pub RulesRead : (xs : List ℕ) (k n : ℕ) → Result Rule Refusal → Type 0

@@ -1,5 +1,6 @@
 -- What the terms of a rule come to. Assumes nothing: these are definitions.
 use Rattle.std.specs.Prelude.{◌≡◌, ℕ, zero, suc, ◌+◌, ◌-◌, ◌*◌, ◌^◌, ◌<◌, ◌≤◌, Bool, true, false, not, ◌&&◌, ◌||◌, List, [], ◌∷◌, ◌++◌, length, get_or, vec_items, slice_index_or}
+use Rattle.std.specs.List.{AllByRecursion}
 use Rattle.layout.specs.Layout.{Drawing}
 use Rattle.scanline.specs.Bands.{covers}
 use Rattle.region.specs.declared.regions.Region.{Region}
@@ -8,9 +9,9 @@ use Rattle.blocks.specs.Blocks.{near}
 use Rattle.blocks.specs.Settled.{Settled, Exactly}
 use Rattle.rules.specs.Rules as rules
 use Rattle.rules.specs.Rules.{squares, breaks}
-use Rattle.rules.specs.Numbers.{max_regions}
-use Rattle.rules.specs.Terms.{term_region, Names}
-use Rattle.rules.specs.Tests.{test_rule, Mild, needs}
+use Rattle.rules.specs.Terms.{named, term_region}
+use Rattle.rules.specs.Sound.{needs}
+use Rattle.rules.specs.Tests.{test_rule}
 use Rattle.rules.specs.Layers.{shows}
 use Rattle.rules.specs.declared.term.Term.{Term}
 use Rattle.rules.specs.declared.term.Term.TheVariants.{Layer, And, Or, Without, Grown}
@@ -28,23 +29,11 @@ value ts n = term_region (λ i. get_or (values ts n) i (rules.layer 0)) (slice_i
 
 -- the rule that is held
 abbrev pub held_rule : Rule → rules.Rule
-held_rule r = test_rule (value r.terms (r.len - 2)) (value r.terms (r.len - 1)) r.test
-
--- its terms name earlier ones only, there are enough of them, and its number is small
-pub record Sound (r : Rule) : Type 0 where
-  pub enough : needs r.test ≤ r.len
-  pub few : r.len ≤ max_regions
-  pub long : length r.terms ≡ max_regions
-  pub names : (i : ℕ) → i < r.len → Names i (slice_index_or r.terms i (Layer 0))
-  pub mild : Mild r.test
+held_rule r = test_rule (value r.terms.items (length r.terms.items - 2)) (value r.terms.items (length r.terms.items - 1)) r.test
 
 -- each term that a term names passes a test
 abbrev pub Over : (ℕ → Bool) → Term → Type 0
-Over p (Layer l) = Unit {0}
-Over p (And a b) = (p a ≡ true) × (p b ≡ true)
-Over p (Or a b) = (p a ≡ true) × (p b ≡ true)
-Over p (Without a b) = (p a ≡ true) × (p b ≡ true)
-Over p (Grown n a) = p a ≡ true
+Over p t = AllByRecursion (λ a. p a ≡ true) (named t)
 
 abbrev pub among : List Bool → ℕ → Bool
 among need i = slice_index_or need i false
@@ -58,9 +47,9 @@ pub record Marked (n : ℕ) (t : Term) (before after : List Bool) : Type 0 where
 
 -- the meant terms are marked, and with each term those that it names
 pub record Needed (r : Rule) (need : List Bool) : Type 0 where
-  pub last : among need (r.len - 1) ≡ true
-  pub before : needs r.test ≡ 2 → among need (r.len - 2) ≡ true
-  pub closed : (i : ℕ) → i < r.len → among need i ≡ true → Over (among need) (slice_index_or r.terms i (Layer 0))
+  pub last : among need (length r.terms.items - 1) ≡ true
+  pub before : needs r.test ≡ 2 → among need (length r.terms.items - 2) ≡ true
+  pub closed : (i : ℕ) → i < length r.terms.items → among need i ≡ true → Over (among need) (slice_index_or r.terms.items i (Layer 0))
 
 -- the layers that the first n terms name show what is drawn, and all that is drawn settles at m
 pub record Shown (d : Drawing) (m : ℕ) (s : Layers) (ts : List Term) (n : ℕ) : Type 0 where
@@ -86,4 +75,4 @@ pub record Evaluated (d : Drawing) (ts : List Term) (need : List Bool) (n : ℕ)
 
 -- a region of the squares that break the rule
 abbrev pub Breaking : Layers → Rule → Region → Type 0
-Breaking s r v = (d : Drawing) (m : ℕ) → Shown d m s r.terms r.len → (x y : ℕ) → covers (vec_items v.bands) x y ≡ breaks d (held_rule r) x y
+Breaking s r v = (d : Drawing) (m : ℕ) → Shown d m s r.terms.items (length r.terms.items) → (x y : ℕ) → covers (vec_items v.bands) x y ≡ breaks d (held_rule r) x y

@@ -16,8 +16,7 @@ pub fn narrow(heap: Global, a: &Region, side: u64) -> Result<Region, AllocError>
     ensures { IfOk result (λ v. Exactly (2 * side) (covers a.now.bands.items) (λ x y. covers a.now.bands.items x y && not (in_a_block side (covers a.now.bands.items) x y)) (covers v.bands.items)) }
 {
     let blocks = open(heap, a, side)?;
-    let out = a.combine(heap, Op::Without, &blocks)?;
-    Ok(out)
+    a.combine(heap, Op::Without, &blocks)
 }
 
 // The squares outside a region around which no block of `side` by `side` is free of it.
@@ -27,8 +26,7 @@ pub fn close(heap: Global, a: &Region, side: u64) -> Result<Region, AllocError>
 {
     let blocks = free(heap, a, side)?;
     let outside = a.complement(heap)?;
-    let out = outside.combine(heap, Op::Without, &blocks)?;
-    Ok(out)
+    outside.combine(heap, Op::Without, &blocks)
 }
 
 // The squares of a region not all of whose neighbours, as far as `by`, are there and in another.
@@ -40,6 +38,5 @@ pub fn shallow(heap: Global, a: &Region, b: &Region, by: u64) -> Result<Region, 
     let near = grow(heap, &outside, by)?;
     let inner = Region::quadrant(heap, by, by)?;
     let safe = inner.combine(heap, Op::Without, &near)?;
-    let out = a.combine(heap, Op::Without, &safe)?;
-    Ok(out)
+    a.combine(heap, Op::Without, &safe)
 }

@@ -1,13 +1,12 @@
 // The terms of a rule evaluated, each once.
-ghost use Rattle.std.specs.Prelude.{◌≡◌, ℕ, ◌<◌, ◌≤◌, true, length, IfOk, vec_len};
+ghost use Rattle.std.specs.Prelude.{◌≡◌, ℕ, true, length, IfOk, vec_len};
 ghost use Rattle.layout.specs.Layout.{Drawing};
 ghost use Rattle.rules.specs.Terms.{Names};
-ghost use Rattle.rules.specs.Values.{Sound, Needed, Shown, Evaluated, TermDone, Breaking};
+ghost use Rattle.rules.specs.Values.{Needed, Shown, Evaluated, TermDone, Breaking};
 
 use super::broken::{close, narrow, shallow};
 use super::layers::Layers;
-use super::need::needed;
-use super::rule::{Rule, Test};
+use super::rule::{MAX_REGIONS, Rule, Test};
 use super::term::Term;
 use blocks::grow;
 use region::regions::Region;
@@ -25,30 +24,15 @@ fn evaluate_term(
     ensures { IfOk result (λ v. TermDone layers.now done.now term v) }
 {
     match term {
-        Term::Layer(layer) => {
-            let out = layers.at(layer).copy(heap)?;
-            Ok(out)
-        }
-        Term::And(a, b) => {
-            let out = done[a].combine(heap, Op::And, &done[b])?;
-            Ok(out)
-        }
-        Term::Or(a, b) => {
-            let out = done[a].combine(heap, Op::Or, &done[b])?;
-            Ok(out)
-        }
-        Term::Without(a, b) => {
-            let out = done[a].combine(heap, Op::Without, &done[b])?;
-            Ok(out)
-        }
-        Term::Grown { by, of } => {
-            let out = grow(heap, &done[of], by)?;
-            Ok(out)
-        }
+        Term::Layer(layer) => layers.region(heap, layer),
+        Term::And(a, b) => done[a].combine(heap, Op::And, &done[b]),
+        Term::Or(a, b) => done[a].combine(heap, Op::Or, &done[b]),
+        Term::Without(a, b) => done[a].combine(heap, Op::Without, &done[b]),
+        Term::Grown { by, of } => grow(heap, &done[of], by),
     }
 }
 
-// The region of a term, or none where it is not needed.
+// The region of a term. One that is not needed stays empty: no term that is needed names it.
 fn evaluate_needed(
     heap: Global,
     layers: &Layers,
@@ -59,57 +43,45 @@ fn evaluate_needed(
     requires { Names (length done.now) term }
     ensures { IfOk result (λ v. need ≡ true → TermDone layers.now done.now term v) }
 {
-    if !need {
-        return Ok(Region::empty(heap));
+    if need {
+        evaluate_term(heap, layers, done, term)
+    } else {
+        Ok(Region::empty(heap))
     }
-    let region = evaluate_term(heap, layers, done, term)?;
-    Ok(region)
 }
 
-// The regions of the terms in their order, those that are not needed left empty.
-fn evaluate_terms(
-    heap: Global,
-    layers: &Layers,
-    rule: &Rule,
-    need: &[bool; 16],
-) -> Result<Vec<Region>, AllocError>
-    requires sound { Sound rule.now }
-    requires need { Needed rule.now need.now }
-    ensures long { IfOk result (λ v. vec_len v ≡ rule.now.len) }
-    ensures values { IfOk result (λ v. (d : Drawing) (m : ℕ) → Shown d m layers.now rule.now.terms rule.now.len → Evaluated d rule.now.terms need.now rule.now.len v.items) }
-{
-    let mut done = Vec::new(heap);
-    for n in 0..rule.len {
-        let region = evaluate_needed(heap, layers, done.as_slice(), rule.terms[n], need[n])?;
-        done.push(region)?;
+impl Rule {
+    // The regions of the terms in their order, those that are not needed left empty.
+    fn evaluate_terms(
+        &self,
+        heap: Global,
+        layers: &Layers,
+        need: &[bool; MAX_REGIONS],
+    ) -> Result<Vec<Region>, AllocError>
+        requires { Needed self.now need.now }
+        ensures long { IfOk result (λ v. vec_len v ≡ length self.now.terms.items) }
+        ensures values { IfOk result (λ v. (d : Drawing) (m : ℕ) → Shown d m layers.now self.now.terms.items (length self.now.terms.items) → Evaluated d self.now.terms.items need.now (length self.now.terms.items) v.items) }
+    {
+        let mut done = Vec::new(heap);
+        for (n, term) in self.terms.iter().enumerate() {
+            let region = evaluate_needed(heap, layers, done.as_slice(), *term, need[n])?;
+            done.push(region)?;
+        }
+        Ok(done)
     }
-    Ok(done)
-}
 
-// The squares that break a rule.
-pub fn broken(heap: Global, layers: &Layers, rule: &Rule) -> Result<Region, AllocError>
-    requires { Sound rule.now }
-    ensures { IfOk result (Breaking layers.now rule.now) }
-{
-    let need = needed(rule);
-    let done = evaluate_terms(heap, layers, rule, &need)?;
-    let last = &done[rule.len - 1];
-    match rule.test {
-        Test::Wide(side) => {
-            let out = narrow(heap, last, side)?;
-            Ok(out)
-        }
-        Test::Apart(side) => {
-            let out = close(heap, last, side)?;
-            Ok(out)
-        }
-        Test::Inside(by) => {
-            let out = shallow(heap, &done[rule.len - 2], last, by)?;
-            Ok(out)
-        }
-        Test::Never => {
-            let out = last.copy(heap)?;
-            Ok(out)
+    // The squares that break it.
+    pub fn broken(&self, heap: Global, layers: &Layers) -> Result<Region, AllocError>
+        ensures { IfOk result (Breaking layers.now self.now) }
+    {
+        let need = self.needed();
+        let done = self.evaluate_terms(heap, layers, &need)?;
+        let last = &done[done.len() - 1];
+        match self.test {
+            Test::Wide(side) => narrow(heap, last, side),
+            Test::Apart(side) => close(heap, last, side),
+            Test::Inside(by) => shallow(heap, &done[done.len() - 2], last, by),
+            Test::Never => last.clone(),
         }
     }
 }

@@ -1,9 +1,8 @@
-// The layers of a layout as regions, those that are wanted swept once each.
+// The layers of a layout as regions.
 use region::regions::Region;
 
-// `regions` goes by the layer's number; a layer past the end, or one that was not wanted, has `none`.
+// By their numbers; those that were not wanted are not swept.
 #[derive(Drop)]
 pub struct Layers {
-    pub(crate) regions: Vec<Region>,
-    pub(crate) none: Region,
+    pub(crate) regions: Vec<Option<Region>>,
 }

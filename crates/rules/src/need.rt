@@ -1,9 +1,9 @@
 // Which terms of a rule the meant ones need.
 ghost use Rattle.std.specs.Prelude.{◌≡◌, ℕ, ◌<◌, ◌≤◌, length};
 ghost use Rattle.rules.specs.Terms.{Names};
-ghost use Rattle.rules.specs.Values.{Sound, Marked, Needed};
+ghost use Rattle.rules.specs.Values.{Marked, Needed};
 
-use super::rule::{Rule, Test};
+use super::rule::{MAX_REGIONS, Rule, Test};
 use super::term::Term;
 
 // Marks the terms that a term names.
@@ -22,20 +22,22 @@ fn mark(need: &mut [bool], term: Term, n: usize)
     }
 }
 
-// The terms that have to be evaluated: from the last on, what a needed term names is needed too.
-pub fn needed(rule: &Rule) -> [bool; 16]
-    requires { Sound rule.now }
-    ensures { Needed rule.now result }
-{
-    let mut need = [false; 16];
-    need[rule.len - 1] = true;
-    if let Test::Inside(_) = rule.test {
-        need[rule.len - 2] = true;
-    }
-    for n in (0..rule.len).rev() {
-        if need[n] {
-            mark(&mut need, rule.terms[n], n);
+impl Rule {
+    // The terms that have to be evaluated: from the last on, what a needed term names is needed too.
+    pub fn needed(&self) -> [bool; MAX_REGIONS]
+        ensures { Needed self.now result }
+    {
+        let mut need = [false; MAX_REGIONS];
+        let len = self.terms.len();
+        need[len - 1] = true;
+        if let Test::Inside(_) = self.test {
+            need[len - 2] = true;
         }
+        for n in (0..len).rev() {
+            if need[n] {
+                mark(&mut need, self.terms[n], n);
+            }
+        }
+        need
     }
-    need
 }

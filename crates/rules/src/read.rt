@@ -1,52 +1,50 @@
 // Rules read from numbers, or turned away.
-ghost use Rattle.std.specs.Prelude.{◌≡◌, ℕ, ◌*◌, ◌<◌, ◌≤◌, length};
-ghost use Rattle.rules.specs.Tests.{Tests, Terms, RulesRead};
+ghost use Rattle.std.specs.Prelude.{◌≡◌, ◌*◌, ◌≤◌, length};
+ghost use Rattle.rules.specs.Tests.{Side, Tests, Terms, RulesRead};
 
-use super::rule::{Rule, Test};
+use super::rule::{MAX_REGIONS, Rule, Test};
 use super::term::Term;
-use super::terms::{MAX_NUMBER, read_term};
+use super::terms::{MAX_NUMBER, read_term, under};
+use arrayvec::ArrayVec;
 use layout::refusal::Refusal;
 
-/// How many regions a rule may have.
-pub const MAX_REGIONS: usize = 16;
-
-// The test of a rule's kind and number, or the place of the first of them that can't stand there.
-fn read_test(kind: u64, number: u64) -> Result<Test, usize>
-    ensures { Tests kind number result }
+// A number that may not be 0.
+fn side(number: u64, place: usize) -> Result<u64, Refusal>
+    ensures { Side number place result }
 {
-    if kind > 3 {
-        return Err(0);
-    }
-    if number > MAX_NUMBER {
-        return Err(1);
-    }
-    if kind == 2 {
-        return Ok(Test::Inside(number));
-    }
-    if kind == 3 {
-        return Ok(Test::Never);
-    }
     if number == 0 {
-        return Err(1);
+        return Err(Refusal::Region(place));
     }
-    if kind == 0 {
-        return Ok(Test::Wide(number));
-    }
-    Ok(Test::Apart(number))
+    under(MAX_NUMBER + 1, number, place)
 }
 
-// The terms of the regions, or the place of the first number that can't stand there.
-fn read_terms(regions: &[u64], len: usize) -> Result<[Term; 16], usize>
+// The test of a rule's kind and number, which stand at a place and after it.
+fn read_test(kind: u64, number: u64, at: usize) -> Result<Test, Refusal>
+    requires { at ≤ 48 }
+    ensures { Tests kind number at result }
+{
+    match kind {
+        0 => Ok(Test::Wide(side(number, at + 1)?)),
+        1 => Ok(Test::Apart(side(number, at + 1)?)),
+        2 => Ok(Test::Inside(under(MAX_NUMBER + 1, number, at + 1)?)),
+        3 => {
+            under(MAX_NUMBER + 1, number, at + 1)?;
+            Ok(Test::Never)
+        }
+        _ => Err(Refusal::Region(at)),
+    }
+}
+
+// The terms of the regions.
+fn read_terms(regions: &[u64], len: usize) -> Result<ArrayVec<Term, MAX_REGIONS>, Refusal>
     requires len { length regions.now ≡ 3 * len }
     requires few { len ≤ 16 }
     ensures { Terms regions.now len result }
 {
-    let mut terms = [Term::Layer(0); 16];
+    let mut terms = ArrayVec::new();
     for n in 0..len {
-        match read_term(n, regions[3 * n], regions[3 * n + 1], regions[3 * n + 2]) {
-            Ok(term) => terms[n] = term,
-            Err(place) => return Err(3 * n + place),
-        }
+        let term = read_term(n, regions[3 * n], regions[3 * n + 1], regions[3 * n + 2])?;
+        terms.push(term);
     }
     Ok(terms)
 }
@@ -61,12 +59,7 @@ pub fn read_rule(regions: &[u64], kind: u64, number: u64) -> Result<Rule, Refusa
     if (count % 3 != 0) | (len < least) | (len > MAX_REGIONS) {
         return Err(Refusal::Regions(count));
     }
-    let terms = match read_terms(regions, len) {
-        Ok(terms) => terms,
-        Err(place) => return Err(Refusal::Region(place)),
-    };
-    match read_test(kind, number) {
-        Ok(test) => Ok(Rule { terms, len, test }),
-        Err(place) => Err(Refusal::Region(3 * len + place)),
-    }
+    let terms = read_terms(regions, len)?;
+    let test = read_test(kind, number, 3 * len)?;
+    Ok(Rule { terms, test })
 }

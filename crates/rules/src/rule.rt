@@ -1,5 +1,12 @@
 // A rule as it is held: up to sixteen regions by value, and what is asked of the meant ones.
+ghost use Rattle.rules.specs.Sound.{Sound};
+ghost use Rattle.std.proofs.Props.{props};
+
 use super::term::Term;
+use arrayvec::ArrayVec;
+
+/// How many regions a rule may have.
+pub const MAX_REGIONS: usize = 16;
 
 // The last term is meant, and for `Inside` the one before it comes first.
 #[derive(Clone, Copy)]
@@ -10,9 +17,9 @@ pub enum Test {
     Never,
 }
 
-#[derive(Clone, Copy)]
+#[derive(Drop)]
 pub struct Rule {
-    pub terms: [Term; 16],
-    pub len: usize,
+    pub terms: ArrayVec<Term, MAX_REGIONS>,
     pub test: Test,
+    ghost sound: { Sound terms.items test } by { Prim.hlevel props },
 }

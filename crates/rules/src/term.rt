@@ -9,3 +9,10 @@ pub enum Term {
     Without(usize, usize),
     Grown { by: u64, of: usize },
 }
+
+// What stands in the room that a rule's terms don't use.
+impl Default for Term {
+    fn default() -> Term {
+        Term::Layer(0)
+    }
+}

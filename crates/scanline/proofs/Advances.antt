@@ -1,6 +1,5 @@
 -- The spans that a row crosses, carried from row to row. Assumes nothing.
 use Rattle.std.proofs.Common.{◌≡◌, ℕ, suc, ◌+◌, ◌-◌, ◌<◌, ◌≤◌, min, Bool, true, false, cond, ◌&&◌, ◌||◌, ltb, leb, ◌⊎◌, List, [], ◌∷◌, ◌++◌, length, get_or, drop, Some, None, sym, refl, ap, ◌∙◌, subst, inl, inr, arith, length-append}
-use Rattle.std.proofs.lemmas.List.{drop_more}
 use Rattle.std.proofs.lemmas.Bool.{cases_lt, lt-ltb, le-ltb}
 use Rattle.std.proofs.lemmas.Bool.Decides.{nat_tests}
 use Rattle.scanline.specs.declared.span.Span.{Span}
@@ -242,5 +241,3 @@ no_next (s ∷ ss) [] e = absurd (grind arith)
 no_next (s ∷ ss) (t ∷ ts) e = absurd (grind arith)
 
 -- the walk that finds the first end
-pub least_more : (m : ℕ) (ss : List Span) (i : ℕ) (first : ℕ) → i < length ss → least_end first (drop i ss) ≡ least_end m ss → least_end (min first (get_or ss i no_span).bottom) (drop (i + 1) ss) ≡ least_end m ss
-least_more m ss i first l h = rw (drop_more ss i no_span l) at h

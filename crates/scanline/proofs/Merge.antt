@@ -1,9 +1,26 @@
 -- What one turn of the merge of two lines keeps. Assumes nothing.
-use Rattle.std.proofs.Common.{◌≡◌, ℕ, suc, ◌+◌, ◌<◌, ◌≤◌, min, Bool, true, false, leb, List, [], ◌∷◌, ◌++◌, length, get_or, drop, Some, None, sym, refl, ap, ◌∙◌, subst, ⊎_elim, arith}
+use Rattle.std.proofs.Common.{◌≡◌, ℕ, suc, ◌+◌, ◌<◌, ◌≤◌, min, Bool, true, false, not, eqb, leb, List, [], ◌∷◌, ◌++◌, length, Some, None, Option, sym, refl, ap, ◌∙◌, subst, ⊎_elim, arith}
 use Rattle.std.proofs.lemmas.Bool.{cases_lt, cases_eq, eq-eqb, ne_eqb, le-leb, lt-leb, leb-true, and_parts, and_from}
 use Rattle.scanline.specs.declared.Op.{Op}
 use Rattle.scanline.specs.declared.Op.TheVariants.{And, Or, Without, Xor}
-use Rattle.scanline.specs.Lines.{differ, inside, rises, Sorted, applied, first, turns, past, Combined}
+use Rattle.scanline.specs.Lines.{differ, inside, rises, Sorted, applied, Combined}
+use Rattle.scanline.specs.Starts.{first_start, starting, past as past_of}
+
+-- the first edge of either line
+abbrev pub first : List ℕ → List ℕ → Option ℕ
+first = first_start (λ e. e)
+
+-- whether the line turns at e, which comes before its other edges, and what is left of it past e
+abbrev pub turns : ℕ → List ℕ → Bool
+turns e [] = false
+turns e (f ∷ fs) = eqb f e
+
+abbrev pub past : ℕ → List ℕ → List ℕ
+past = past_of (λ e. e)
+
+pub turns_here : (e : ℕ) (es here : List ℕ) (b : Bool) → here ≡ starting (λ f. f) e es → b ≡ eqb (length here) 0 → not b ≡ turns e es
+turns_here e [] here b h k = ap not (k ∙ ap (λ u. eqb (length u) 0) h)
+turns_here e (f ∷ fs) here b h k = ⊎_elim (λ s. ap not (k ∙ ap (λ u. eqb (length u) 0) h) ∙ rw (eq-eqb f e s)) (λ n. ap not (k ∙ ap (λ u. eqb (length u) 0) h) ∙ rw (ne_eqb f e n)) (cases_eq f e)
 
 -- differ
 
@@ -225,11 +242,6 @@ module _ (op : Op) (a b out left-a left-b : List ℕ) (in-a in_b within : Bool) 
       (between-push 0 h.low out e h.ordered k)
       (λ x m. inside-push out e x ∙ rw (lt-leb e x m) (differ-false (inside out x)))
       (λ x m. inside-push out e x ∙ rw (le-leb e x m) (turned next within s (inside out x) (h.rest x (omega arith))))
-
--- a line that begins with e
-pub begins : (e : ℕ) (es : List ℕ) → 0 < length es → get_or es 0 0 ≡ e → (true ≡ turns e es) × (drop 1 es ≡ past e es)
-begins e [] l s = absurd (omega arith)
-begins e (f ∷ fs) l s = rw (eq-eqb f e s) (refl, refl)
 
 pub same : (a b : Bool) → differ a b ≡ false → a ≡ b
 same true true e = refl

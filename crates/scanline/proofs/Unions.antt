@@ -1,6 +1,6 @@
 -- The line of all columns of spans, by a walk over spans in the order of their columns. Assumes nothing.
 use Rattle.std.proofs.Common.{◌≡◌, ℕ, suc, ◌+◌, ◌<◌, ◌≤◌, max, Bool, true, false, ◌&&◌, ◌||◌, ltb, leb, List, [], ◌∷◌, ◌++◌, length, get_or, drop, sym, refl, ◌∙◌, subst, ⊎_elim, arith}
-use Rattle.std.proofs.lemmas.List.{drop_more, drop_all}
+use Rattle.std.proofs.lemmas.List.{drop_more, drop_all, append_assoc}
 use Rattle.std.proofs.lemmas.Bool.{cases_lt, le-leb, lt-leb, lt-ltb, le-ltb}
 use Rattle.std.proofs.lemmas.Bool.Decides.{nat_tests}
 use Rattle.scanline.specs.Lines.{differ, inside}
@@ -70,6 +70,10 @@ module _ (spans : List Span) (out : List ℕ) (from to : ℕ) (s : Span) (left :
 
       wider : (a d : Bool) (x : ℕ) → ((a || (leb from x && ltb x to)) || (across s x || d)) ≡ ((a || (leb from x && ltb x (max to s.right))) || d)
       wider a d x = let p = h.rest.0 in let k = h.solid in grind (arith, nat_tests)
+
+-- both ends of an interval, added at once
+pub both_ends : (out : List ℕ) (from to : ℕ) → out ++ from ∷ to ∷ [] ≡ (out ++ from ∷ []) ++ to ∷ []
+both_ends out from to = sym (append_assoc out (from ∷ []) (to ∷ []))
 
 pub unite_none : Union [] []
 unfolding any_across

@@ -1,40 +1,41 @@
 -- A walk over a line's edges, and the complement. Assumes nothing.
-use Rattle.std.proofs.Common.{◌≡◌, ℕ, suc, ◌+◌, ◌<◌, ◌≤◌, Bool, true, false, not, List, [], ◌∷◌, length, get_or, drop, sym, refl, ◌∙◌, ⊎_elim, arith}
-use Rattle.std.proofs.lemmas.List.{drop_more, drop_all}
+use Rattle.std.proofs.Common.{◌≡◌, ℕ, zero, suc, ◌<◌, ◌≤◌, ◌%◌, Bool, true, false, not, eqb, leb, List, [], ◌∷◌, length, get_or, drop, sym, refl, ap, ◌∙◌, ⊎_elim, arith}
+use Rattle.std.specs.List.Sorted.{IsPartitionPoint}
 use Rattle.std.proofs.lemmas.Bool.{cases_eq, eq-eqb, ne_eqb, le-leb}
 use Rattle.scanline.specs.Lines.{differ, inside, Sorted, toggled}
-use Rattle.scanline.proofs.Merge.{From, rises-from, from-rises, from_less, inside-before, differ-false, false_differ, differ-assoc}
+use Rattle.scanline.proofs.Merge.{From, rises-from, from-rises, from_less}
 
--- the first i edges of es are at or before x, and tell `within`
-pub record Walked (es : List ℕ) (x i : ℕ) (within : Bool) : Type 0 where
-  pub low : ℕ
-  pub from : From low (drop i es)
-  pub is : inside es x ≡ differ within (inside (drop i es) x)
+-- no later edge is less
+at-least : (p : ℕ) (es : List ℕ) → From p es → (j d : ℕ) → j < length es → p ≤ get_or es j d
+at-least p [] h j d l = absurd (omega arith)
+at-least p (e ∷ es) h zero d l = h.0
+at-least p (e ∷ es) h (suc j) d l = let k = at-least (suc e) es h.1 j d (omega arith) in omega (arith, h.0)
 
-pub walk_none : (es : List ℕ) (x : ℕ) → Sorted es → Walked es x 0 false
-walk_none es x h = record { low = 0; from = rises-from 0 es h; is = sym (false_differ (inside es x)) }
+pub rising : (p : ℕ) (es : List ℕ) → From p es → (i j d : ℕ) → i ≤ j → j < length es → get_or es i d ≤ get_or es j d
+rising p [] h i j d k l = absurd (omega arith)
+rising p (e ∷ es) h zero zero d k l = omega arith
+rising p (e ∷ es) h zero (suc j) d k l = let m = at-least (suc e) es h.1 j d (omega arith) in omega arith
+rising p (e ∷ es) h (suc i) zero d k l = absurd (omega arith)
+rising p (e ∷ es) h (suc i) (suc j) d k l = rising (suc e) es h.1 i j d (omega arith) (omega arith)
 
-not_is : (a : Bool) → differ a true ≡ not a
+not_is : (a : Bool) → differ true a ≡ not a
 not_is true = refl
 not_is false = refl
 
-pub walk_more : (es : List ℕ) (x i : ℕ) (within : Bool) → Walked es x i within → i < length es → get_or es i 0 ≤ x → Walked es x (i + 1) (not within)
-walk_more es x i within h l m =
-    let d = drop_more es i 0 l in
-    record {
-      low = suc (get_or es i 0);
-      from = (rw d at h.from).1;
-      is = h.is ∙ rw (d, le-leb (get_or es i 0) x m) (sym (differ-assoc within true (inside (drop (i + 1) es) x)) ∙ rw (not_is within));
-    }
+odd_more : (n : ℕ) → eqb (suc n % 2) 1 ≡ not (eqb (n % 2) 1)
+odd_more n = ⊎_elim (λ e. let f : suc n % 2 ≡ 0 = omega arith in rw (eq-eqb (n % 2) 1 e, f)) (λ e. let f : suc n % 2 ≡ 1 = omega arith in rw (ne_eqb (n % 2) 1 e, f)) (cases_eq (n % 2) 1)
 
-pub walk_stop : (es : List ℕ) (x i : ℕ) (within : Bool) → Walked es x i within → i < length es → x < get_or es i 0 → within ≡ inside es x
-walk_stop es x i within h l m =
-    let d = drop_more es i 0 l in
-    let k : From (get_or es i 0) (drop i es) = rw d (omega arith, (rw d at h.from).1) in
-    sym (h.is ∙ rw (inside-before (get_or es i 0) (drop i es) x k m) (differ-false within))
-
-pub walk_all : (es : List ℕ) (x i : ℕ) (within : Bool) → Walked es x i within → length es ≤ i → within ≡ inside es x
-walk_all es x i within h l = sym (h.is ∙ rw (drop_all i es l) (differ-false within))
+-- an odd number of edges lie at or before x
+pub odd_inside : (es : List ℕ) (x n : ℕ) → n ≤ length es → IsPartitionPoint (λ e. leb e x ≡ true) (λ e. leb e x ≡ false) es n → eqb (n % 2) 1 ≡ inside es x
+odd_inside [] x n l h = let z : n ≡ 0 = omega arith in rw z
+odd_inside (e ∷ es) x zero l h = sym (none (e ∷ es) (λ k m. h.1 k 0 (omega arith) m))
+  where
+    none : (es : List ℕ) → ((k : ℕ) → k < length es → leb (get_or es k 0) x ≡ false) → inside es x ≡ false
+    none [] h = refl
+    none (e ∷ es) h = rw (h 0 (omega arith), none es (λ k m. h (suc k) (omega arith)))
+odd_inside (e ∷ es) x (suc n) l h =
+    let rest = odd_inside es x n (omega arith) (λ k d m o. h.0 (suc k) d (omega arith) (omega arith), λ k d m o. h.1 (suc k) d (omega arith) (omega arith)) in
+    odd_more n ∙ ap not rest ∙ sym (rw (h.0 0 0 (omega arith) (omega arith)) (not_is (inside es x)))
 
 -- the complement
 pub true_differ : (a : Bool) → differ true a ≡ not a

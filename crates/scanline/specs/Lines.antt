@@ -1,5 +1,5 @@
 -- Lines as lists of edges, and what they hold. Assumes nothing.
-use Rattle.std.specs.Prelude.{◌≡◌, ℕ, suc, ◌+◌, ◌-◌, ◌^◌, ◌<◌, ◌≤◌, min, Bool, true, false, cond, not, ◌&&◌, ◌||◌, ◌⊎◌, List, [], ◌∷◌, ◌++◌, Some, None, Decides, Option, ◌==◌, nat_le}
+use Rattle.std.specs.Prelude.{◌≡◌, ℕ, suc, ◌+◌, ◌-◌, ◌^◌, ◌<◌, ◌≤◌, Bool, true, false, cond, not, ◌&&◌, ◌||◌, ◌⊎◌, List, [], ◌∷◌, ◌++◌, Decides, ◌==◌, nat_le}
 use Rattle.std.specs.Bool.{beq}
 use Rattle.scanline.specs.declared.Op.{Op}
 use Rattle.scanline.specs.declared.Op.TheVariants.{And, Or, Without, Xor}
@@ -27,22 +27,6 @@ applied And a b = a && b
 applied Or a b = a || b
 applied Without a b = a && not b
 applied Xor a b = differ a b
-
--- the first edge of either line
-abbrev pub first : List ℕ → List ℕ → Option ℕ
-first [] [] = None
-first [] (y ∷ ys) = Some y
-first (x ∷ xs) [] = Some x
-first (x ∷ xs) (y ∷ ys) = Some (min x y)
-
--- whether the line turns at e, which comes before its other edges, and what is left of it past e
-abbrev pub turns : ℕ → List ℕ → Bool
-turns e [] = false
-turns e (f ∷ fs) = f == e
-
-abbrev pub past : ℕ → List ℕ → List ℕ
-past e [] = []
-past e (f ∷ fs) = cond (f == e) fs (f ∷ fs)
 
 pub record Combined (op : Op) (a b r : List ℕ) : Type 0 where
   pub ordered : Sorted r

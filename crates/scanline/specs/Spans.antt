@@ -1,5 +1,6 @@
 -- Boxes as spans, and what they cover. Assumes nothing.
 use Rattle.std.specs.Prelude.{◌≡◌, ℕ, suc, ◌+◌, ◌<◌, ◌≤◌, min, Bool, true, false, cond, ◌&&◌, ◌||◌, ◌⊎◌, List, [], ◌∷◌, ◌++◌, length, Some, None, Option, nat_le, nat_lt}
+use Rattle.std.specs.List.{fold}
 use Rattle.std.specs.Borrow.{Bor}
 use Rattle.layout.specs.declared.rect.Rect.{Rect}
 use Rattle.layout.specs.Rects.{in_rect}
@@ -95,8 +96,7 @@ pub record Advanced (row : ℕ) (live new r : List Span) : Type 0 where
 
 -- the least of m and the rows at which the spans end
 abbrev pub least_end : ℕ → List Span → ℕ
-least_end m [] = m
-least_end m (s ∷ ss) = least_end (min m s.bottom) ss
+least_end m ss = fold (λ n s. min n s.bottom) m ss
 
 -- the next row at which a span that has begun ends, or another begins
 abbrev pub next_edge : List Span → List Span → Option ℕ

@@ -1,19 +1,22 @@
 // A set of numbers, as the edges at which it begins and ends.
 ghost use Rattle.std.specs.Prelude.{◌≡◌, ℕ, ◌<◌, not, List, [], ◌∷◌, IfOk};
-ghost use Rattle.scanline.specs.Lines.{inside, Sorted, Combined, toggled, Widened, MovedRight, MovedLeft};
-ghost use Rattle.scanline.specs.Spans.{ByColumns, any_across};
+ghost use Rattle.scanline.specs.Lines.{inside, Sorted, toggled};
 
-use super::shift::{shift_edges_left, shift_edges_right};
-use super::span::Span;
-use super::spread::widen_edges;
-use super::union::union_edges;
-use super::{Op, combine_lines};
 use std::alloc::{AllocError, Global};
 
-#[derive(Debug, Drop)]
+#[derive(Debug, Drop, PartialEq, Eq)]
 pub struct Line {
-    edges: Vec<u64>,
+    pub(crate) edges: Vec<u64>,
     ghost sorted: { Sorted edges.items },
+}
+
+impl Clone for Line {
+    ghost is_clone = { λ a b. b.edges.items ≡ a.edges.items };
+
+    fn clone(&self) -> Result<Line, AllocError> {
+        let edges = self.edges.clone()?;
+        Ok(Line { edges })
+    }
 }
 
 impl Line {
@@ -41,15 +44,6 @@ impl Line {
         Ok(Line { edges })
     }
 
-    // All columns of spans in the order of their columns.
-    pub fn of_spans(heap: Global, spans: &[Span]) -> Result<Line, AllocError>
-        requires { ByColumns 0 spans.now }
-        ensures { IfOk result (λ v. (x : ℕ) → inside v.edges.items x ≡ any_across spans.now x) }
-    {
-        let edges = union_edges(heap, spans)?;
-        Ok(Line { edges })
-    }
-
     pub fn edges(&self) -> &[u64]
         ensures { result.now ≡ self.now.edges.items }
     {
@@ -59,52 +53,7 @@ impl Line {
     pub fn contains(&self, x: u64) -> bool
         ensures { result ≡ inside self.now.edges.items x }
     {
-        let mut within = false;
-        for edge in self.edges.as_slice() {
-            if *edge > x {
-                return within;
-            }
-            within = !within;
-        }
-        within
-    }
-
-    pub fn combine(&self, heap: Global, op: Op, other: &Line) -> Result<Line, AllocError>
-        ensures { IfOk result (λ v. Combined op self.now.edges.items other.now.edges.items v.edges.items) }
-    {
-        let edges = combine_lines(heap, op, self.edges.as_slice(), other.edges.as_slice())?;
-        Ok(Line { edges })
-    }
-
-    pub fn copy(&self, heap: Global) -> Result<Line, AllocError>
-        ensures { IfOk result (λ v. v.edges.items ≡ self.now.edges.items) }
-    {
-        let edges = Vec::from_slice(heap, self.edges.as_slice())?;
-        Ok(Line { edges })
-    }
-
-    // Each interval ends `by` later, and those that then meet are one.
-    pub fn widen(&self, heap: Global, by: u64) -> Result<Line, AllocError>
-        ensures { IfOk result (λ v. Widened by self.now.edges.items v.edges.items) }
-    {
-        let edges = widen_edges(heap, self.edges.as_slice(), by)?;
-        Ok(Line { edges })
-    }
-
-    // Each column `by` to the right.
-    pub fn shift_right(&self, heap: Global, by: u64) -> Result<Line, AllocError>
-        ensures { IfOk result (λ v. MovedRight by self.now.edges.items v.edges.items) }
-    {
-        let edges = shift_edges_right(heap, self.edges.as_slice(), by)?;
-        Ok(Line { edges })
-    }
-
-    // Each column `by` to the left, without those that would lie past the first.
-    pub fn shift_left(&self, heap: Global, by: u64) -> Result<Line, AllocError>
-        ensures { IfOk result (λ v. MovedLeft by self.now.edges.items v.edges.items) }
-    {
-        let edges = shift_edges_left(heap, self.edges.as_slice(), by)?;
-        Ok(Line { edges })
+        self.edges.partition_point(|edge| *edge <= x) % 2 == 1
     }
 
     // All that is not in the line.

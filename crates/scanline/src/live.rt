@@ -75,11 +75,7 @@ pub fn advance<'a>(
 fn first_end(row: u64, spans: &[Span]) -> u64
     ensures { result ≡ least_end row spans.now }
 {
-    let mut first = row;
-    for span in spans {
-        first = first.min(span.bottom);
-    }
-    first
+    spans.iter().fold(row, |first, span| first.min(span.bottom))
 }
 
 // The next row at which a span that has begun ends, or another begins.

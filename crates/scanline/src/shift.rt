@@ -1,23 +1,9 @@
 // Lines moved to the right and to the left.
 ghost use Rattle.std.specs.Prelude.{◌≡◌, IfOk, OnOk};
-ghost use Rattle.scanline.specs.Lines.{Sorted, MovedRight, MovedLeft, ends_in, Toggled};
+ghost use Rattle.scanline.specs.Lines.{MovedRight, MovedLeft, ends_in, Toggled};
 
+use super::lines::Line;
 use std::alloc::{AllocError, Global};
-
-// Each edge `by` later, without those that no u64 names.
-pub fn shift_edges_right(heap: Global, edges: &[u64], by: u64) -> Result<Vec<u64>, AllocError>
-    requires { Sorted edges.now }
-    ensures { IfOk result (λ v. Sorted v.items × MovedRight by edges.now v.items) }
-{
-    let mut out = Vec::with_capacity(heap, edges.len())?;
-    for edge in edges {
-        let Some(moved) = edge.checked_add(by) else {
-            return Ok(out);
-        };
-        out.push(moved)?;
-    }
-    Ok(out)
-}
 
 // Whether `edge` is the last one.
 fn ends_in(edges: &[u64], edge: u64) -> bool
@@ -33,7 +19,7 @@ fn ends_in(edges: &[u64], edge: u64) -> bool
 fn toggle(edges: &mut Vec<u64>, edge: u64) -> Result<(), AllocError>
     ensures { OnOk result (Toggled edge edges.old.items edges.new.items) }
 {
-    if ends_in(edges.as_slice(), edge) {
+    if ends_in(edges, edge) {
         let _ = edges.pop();
         return Ok(());
     }
@@ -41,14 +27,29 @@ fn toggle(edges: &mut Vec<u64>, edge: u64) -> Result<(), AllocError>
     Ok(())
 }
 
-// Each edge `by` earlier, but not below 0, where two edges that meet are none.
-pub fn shift_edges_left(heap: Global, edges: &[u64], by: u64) -> Result<Vec<u64>, AllocError>
-    requires { Sorted edges.now }
-    ensures { IfOk result (λ v. Sorted v.items × MovedLeft by edges.now v.items) }
-{
-    let mut out = Vec::with_capacity(heap, edges.len())?;
-    for edge in edges {
-        toggle(&mut out, edge.saturating_sub(by))?;
+impl Line {
+    // Each column `by` to the right; edges that no u64 names are left out.
+    pub fn shift_right(&self, heap: Global, by: u64) -> Result<Line, AllocError>
+        ensures { IfOk result (λ v. MovedRight by self.now.edges.items v.edges.items) }
+    {
+        let mut edges = Vec::with_capacity(heap, self.edges.len())?;
+        for edge in &self.edges {
+            let Some(moved) = edge.checked_add(by) else {
+                return Ok(Line { edges });
+            };
+            edges.push(moved)?;
+        }
+        Ok(Line { edges })
     }
-    Ok(out)
+
+    // Each column `by` to the left, without those that would lie past the first: two edges that meet there are none.
+    pub fn shift_left(&self, heap: Global, by: u64) -> Result<Line, AllocError>
+        ensures { IfOk result (λ v. MovedLeft by self.now.edges.items v.edges.items) }
+    {
+        let mut edges = Vec::with_capacity(heap, self.edges.len())?;
+        for edge in &self.edges {
+            toggle(&mut edges, edge.saturating_sub(by))?;
+        }
+        Ok(Line { edges })
+    }
 }

@@ -56,10 +56,8 @@ pub fn begin_at(spans: &[Span], row: u64) -> usize
     ensures begin { (k : ℕ) → k < result → (slice_index_or spans.now k no_span).top ≡ row }
     ensures next { result < length spans.now → (slice_index_or spans.now result no_span).top ≢ row }
 {
-    for (i, span) in spans.iter().enumerate() {
-        if span.top != row {
-            return i;
-        }
-    }
-    spans.len()
+    spans
+        .iter()
+        .position(|span| span.top != row)
+        .unwrap_or(spans.len())
 }

@@ -1,21 +1,19 @@
 // text_examples: prints the worked examples as texts, which are held to the file stdout beside src/.
 #![tactic(auto)]
 
-use anyhow::anyhow;
 use area::area;
 use circuit_text::read_circuit;
 use circuits::{Comparison, compare};
-use deck::fault::DeckFault;
 use deck::judge_deck;
 use devices::devices;
-use devices::entry::Found;
-use layout::refusal::{Fault, Refusal};
-use nets::entry::Numbering;
+use devices::reading::Found;
+use layout::refusal::Fault;
 use nets::nets;
 use region::regions::Region;
 use rule_text::read_rules;
 use rules::judge::Verdict;
 use rules::judges::judge;
+use std::alloc::Global;
 use text::layout_text::read_layout;
 
 // A box five by three, and one by three after a free column.
@@ -69,22 +67,11 @@ const RENAMED: &str = "pins p q  # the same\n\ndevice b a q\ndevice b p q";
 
 const OTHER_GATE: &str = "pins p q\ndevice g p q\ndevice r q r";
 
-fn refused(rt: &HostRuntime, name: &str, refusal: Refusal) -> anyhow::Result<()> {
-    let number = refusal.number();
-    let place = refusal.place();
-    println!(rt; "{name}: refusal {number} at {place}")?;
-    Ok(())
-}
-
 // The nodes of a layout text.
 fn nodes_of(rt: &HostRuntime, text: &str) -> anyhow::Result<Vec<u64>> {
-    match read_layout(rt.alloc(), text.as_bytes()) {
-        Ok(layout) => {
-            let nodes = layout.nodes.as_slice().to_vec(rt.alloc())?;
-            Ok(nodes)
-        }
-        Err(_) => Err(anyhow!("a layout text that can't be read")),
-    }
+    let layout = read_layout(rt.alloc(), text.as_bytes())?;
+    let nodes = layout.nodes.to_vec(rt.alloc())?;
+    Ok(nodes)
 }
 
 // The first square that breaks a rule, and how many do.
@@ -101,20 +88,20 @@ fn show(rt: &HostRuntime, name: &str, layout: &str, rules: &str) -> anyhow::Resu
     let nodes = nodes_of(rt, layout)?;
     let deck = match read_rules(rt.alloc(), rules.as_bytes()) {
         Ok(deck) => deck,
-        Err(Fault::Refused(refusal)) => return refused(rt, name, refusal),
-        Err(Fault::Memory) => return Err(anyhow!("no memory")),
+        Err(fault) => {
+            println!(rt; "{name}: {fault}")?;
+            return Ok(());
+        }
     };
-    match judge_deck(rt.alloc(), nodes.as_slice(), deck.as_slice()) {
+    match judge_deck(rt.alloc(), &nodes, &deck) {
         Ok(regions) => {
-            for broken in regions.as_slice() {
+            for broken in &regions {
                 show_broken(rt, name, broken)?;
             }
-            Ok(())
         }
-        Err(DeckFault::Layout(refusal)) => refused(rt, name, refusal),
-        Err(DeckFault::Rule(_, refusal)) => refused(rt, name, refusal),
-        Err(DeckFault::Memory) => Err(anyhow!("no memory")),
+        Err(fault) => println!(rt; "{name}: {fault}")?,
     }
+    Ok(())
 }
 
 fn rules_of_two_boxes(rt: &HostRuntime) -> anyhow::Result<()> {
@@ -141,10 +128,9 @@ fn rules_of_two_boxes(rt: &HostRuntime) -> anyhow::Result<()> {
 // The entry for one rule in numbers.
 fn judge_numbers(rt: &HostRuntime, name: &str, layout: &[u64]) -> anyhow::Result<()> {
     match judge(rt.alloc(), layout, &[0, 0, 0], 0, 2) {
-        Verdict::Clean => println!(rt; "{name}: clean")?,
-        Verdict::Broken(x, y) => println!(rt; "{name}: {x} {y}")?,
-        Verdict::Turned(refusal) => refused(rt, name, refusal)?,
-        Verdict::Memory => println!(rt; "{name}: no memory")?,
+        Ok(Verdict::Clean) => println!(rt; "{name}: clean")?,
+        Ok(Verdict::Broken(x, y)) => println!(rt; "{name}: {x} {y}")?,
+        Err(fault) => println!(rt; "{name}: {fault}")?,
     }
     Ok(())
 }
@@ -169,16 +155,9 @@ fn show_nets(
 ) -> anyhow::Result<()> {
     let nodes = nodes_of(rt, layout)?;
     let mut numbers = vec![in rt.alloc(); 0; spots.len() / 3]?;
-    match nets(
-        rt.alloc(),
-        nodes.as_slice(),
-        technology,
-        spots,
-        numbers.as_mut_slice(),
-    ) {
-        Numbering::Numbered => println!(rt; "{name}: {numbers:?}")?,
-        Numbering::Refused(refusal) => refused(rt, name, refusal)?,
-        Numbering::Memory => println!(rt; "{name}: no memory")?,
+    match nets(rt.alloc(), &nodes, technology, spots, &mut numbers) {
+        Ok(()) => println!(rt; "{name}: {numbers:?}")?,
+        Err(fault) => println!(rt; "{name}: {fault}")?,
     }
     Ok(())
 }
@@ -243,16 +222,10 @@ fn show_devices(
 ) -> anyhow::Result<()> {
     let nodes = nodes_of(rt, layout)?;
     let mut numbers = vec![in rt.alloc(); 0; room]?;
-    match devices(
-        rt.alloc(),
-        nodes.as_slice(),
-        technology,
-        numbers.as_mut_slice(),
-    ) {
-        Found::Devices(count) => println!(rt; "{name}: {count}, {numbers:?}")?,
-        Found::Odd(x, y) => println!(rt; "{name}: no device at {x} {y}")?,
-        Found::Refused(refusal) => refused(rt, name, refusal)?,
-        Found::Memory => println!(rt; "{name}: no memory")?,
+    match devices(rt.alloc(), &nodes, technology, &mut numbers) {
+        Ok(Found::Devices(count)) => println!(rt; "{name}: {count}, {numbers:?}")?,
+        Ok(Found::Odd(x, y)) => println!(rt; "{name}: no device at {x} {y}")?,
+        Err(fault) => println!(rt; "{name}: {fault}")?,
     }
     Ok(())
 }
@@ -276,41 +249,32 @@ fn nets_of_device(rt: &HostRuntime) -> anyhow::Result<()> {
     let nodes = nodes_of(rt, CROSSING)?;
     let technology = [2, 0, 1, 0, 1, 1];
     let mut room = [0; 6];
-    let _found = devices(heap, nodes.as_slice(), &technology, &mut room);
+    devices(heap, &nodes, &technology, &mut room)?;
     let [x, y, one_x, one_y, other_x, other_y] = room;
     let spots = [0, one_x, one_y, 0, other_x, other_y, 1, x, y];
     let mut numbers = [0; 3];
-    let _numbered = nets(heap, nodes.as_slice(), &technology, &spots, &mut numbers);
+    nets(heap, &nodes, &technology, &spots, &mut numbers)?;
     let [one, other, gate] = numbers;
     println!(rt; "device {x} {y} gate {gate} ends {one} {other}")?;
     Ok(())
 }
 
+// Whether two circuit texts mean circuits that are the same.
+fn compare_texts(heap: Global, first: &str, second: &str) -> Result<Comparison, Fault> {
+    let a = read_circuit(heap, first.as_bytes())?;
+    let b = read_circuit(heap, second.as_bytes())?;
+    let named = a.pins.map_or(0, |pins| pins.many as u64);
+    let nets_a = a.names.len() as u64;
+    let nets_b = b.names.len() as u64;
+    let comparison = compare(nets_a, nets_b, named, &a.devices, &b.devices)?;
+    Ok(comparison)
+}
+
 fn show_circuits(rt: &HostRuntime, name: &str, first: &str, second: &str) -> anyhow::Result<()> {
-    let a = match read_circuit(rt.alloc(), first.as_bytes()) {
-        Ok(circuit) => circuit,
-        Err(Fault::Refused(refusal)) => return refused(rt, name, refusal),
-        Err(Fault::Memory) => return Err(anyhow!("no memory")),
-    };
-    let b = match read_circuit(rt.alloc(), second.as_bytes()) {
-        Ok(circuit) => circuit,
-        Err(Fault::Refused(refusal)) => return refused(rt, name, refusal),
-        Err(Fault::Memory) => return Err(anyhow!("no memory")),
-    };
-    let named = match a.pins {
-        Some(pins) => pins.many as u64,
-        None => 0,
-    };
-    match compare(
-        a.names.len() as u64,
-        b.names.len() as u64,
-        named,
-        a.devices.as_slice(),
-        b.devices.as_slice(),
-    ) {
+    match compare_texts(rt.alloc(), first, second) {
         Ok(Comparison::Equal) => println!(rt; "{name}: same")?,
         Ok(Comparison::Unequal) => println!(rt; "{name}: not the same")?,
-        Err(refusal) => refused(rt, name, refusal)?,
+        Err(fault) => println!(rt; "{name}: {fault}")?,
     }
     Ok(())
 }

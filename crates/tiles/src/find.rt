@@ -8,19 +8,11 @@ pub fn find_tile(tiles: &[Tile], layer: u64, x: u64, y: u64) -> Option<usize>
     requires { Ordered tiles.now }
     ensures { Located tiles.now layer x y result }
 {
-    let mut low = 0;
-    let mut high = tiles.len();
-    while low < high {
-        let middle = low + (high - low) / 2;
-        let tile = tiles[middle];
-        if tile.contains(layer, x, y) {
-            return Some(middle);
-        }
-        if tile.starts(layer, x, y) {
-            low = middle + 1;
-        } else {
-            high = middle;
-        }
+    let begun = tiles.partition_point(|tile| tile.starts(layer, x, y));
+    let last = begun.checked_sub(1)?;
+    if tiles[last].contains(layer, x, y) {
+        Some(last)
+    } else {
+        None
     }
-    None
 }

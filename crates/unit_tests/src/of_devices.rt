@@ -1,7 +1,7 @@
 // Devices of small layouts: layer 0 is crossed, layer 1 is the gate's.
 use devices::devices;
-use devices::entry::Found;
-use layout::refusal::Refusal;
+use devices::reading::Found;
+use layout::refusal::{Fault, Refusal};
 use std::alloc::{AllocError, Global};
 use std::test::Fail;
 
@@ -31,10 +31,9 @@ fn read(
     boxes: &[[u64; 5]],
     technology: &[u64],
     room: &mut [u64],
-) -> Result<Found, AllocError> {
+) -> Result<Found<u64>, Fault> {
     let layout = layout_of(heap, boxes)?;
-    let found = devices(heap, layout.as_slice(), technology, room);
-    Ok(found)
+    devices(heap, &layout, technology, room)
 }
 
 #[test]
@@ -49,8 +48,8 @@ fn a_strip_that_is_crossed(rt: HostRuntime) -> Result<(), Fail> {
 #[test]
 fn too_little_room(rt: HostRuntime) -> Result<(), Fail> {
     let mut room = [9; 5];
-    let found = read(rt.alloc(), &STRIP, &TWO_LAYERS, &mut room)?;
-    assert_eq!(rt; found, Found::Refused(Refusal::Room(5)));
+    let found = read(rt.alloc(), &STRIP, &TWO_LAYERS, &mut room);
+    assert_eq!(rt; found, Err(Fault::Refused(Refusal::Room(5))));
     assert_eq!(rt; room, [9; 5]);
     Ok(())
 }

@@ -1,6 +1,5 @@
 // Nets of small layouts.
-use layout::refusal::Refusal;
-use nets::entry::Numbering;
+use layout::refusal::{Fault, Refusal};
 use nets::nets;
 
 // A strip of layer 0 that a strip of layer 1 crosses.
@@ -17,7 +16,7 @@ fn a_gate_cuts_what_it_crosses(rt: HostRuntime) {
         &spots,
         &mut numbers,
     );
-    assert_eq!(rt; answer, Numbering::Numbered);
+    assert_eq!(rt; answer, Ok(()));
     assert_eq!(rt; numbers, [1, 2, 3, 0, 1]);
 }
 
@@ -35,7 +34,7 @@ fn nothing_joins_under_a_gate(rt: HostRuntime) {
         &spots,
         &mut numbers,
     );
-    assert_eq!(rt; answer, Numbering::Numbered);
+    assert_eq!(rt; answer, Ok(()));
     assert_eq!(rt; numbers, [1, 2, 3, 0, 1]);
 }
 
@@ -45,7 +44,7 @@ fn corners_are_two_nets(rt: HostRuntime) {
     let spots = [0, 1, 1, 0, 2, 2];
     let mut numbers = [9; 2];
     let answer = nets(rt.alloc(), &layout, &[1, 0, 0, 1, 1], &spots, &mut numbers);
-    assert_eq!(rt; answer, Numbering::Numbered);
+    assert_eq!(rt; answer, Ok(()));
     assert_eq!(rt; numbers, [1, 2]);
 }
 
@@ -65,7 +64,7 @@ fn a_wire_above_bridges_two(rt: HostRuntime) {
         &spots,
         &mut numbers,
     );
-    assert_eq!(rt; joined, Numbering::Numbered);
+    assert_eq!(rt; joined, Ok(()));
     assert_eq!(rt; numbers, [1, 1, 1, 0]);
     let apart = nets(
         rt.alloc(),
@@ -74,7 +73,7 @@ fn a_wire_above_bridges_two(rt: HostRuntime) {
         &spots,
         &mut numbers,
     );
-    assert_eq!(rt; apart, Numbering::Numbered);
+    assert_eq!(rt; apart, Ok(()));
     assert_eq!(rt; numbers, [1, 2, 3, 0]);
 }
 
@@ -82,7 +81,7 @@ fn a_wire_above_bridges_two(rt: HostRuntime) {
 fn refusals_leave_the_numbers(rt: HostRuntime) {
     let mut numbers = [9; 1];
     let short = nets(rt.alloc(), &CROSSED, &[2, 0, 1], &[0, 0, 2], &mut numbers);
-    assert_eq!(rt; short, Numbering::Refused(Refusal::Technology(3)));
+    assert_eq!(rt; short, Err(Fault::Refused(Refusal::Technology(3))));
     let large = nets(
         rt.alloc(),
         &CROSSED,
@@ -90,6 +89,6 @@ fn refusals_leave_the_numbers(rt: HostRuntime) {
         &[0, 1_073_741_825, 2],
         &mut numbers,
     );
-    assert_eq!(rt; large, Numbering::Refused(Refusal::Spots(1)));
+    assert_eq!(rt; large, Err(Fault::Refused(Refusal::Spots(1))));
     assert_eq!(rt; numbers, [9]);
 }

@@ -1,5 +1,5 @@
-use Rattle.std.proofs.Common.{◌+◌, ◌^◌, ◌<◌, ◌≤◌, length, inl, inr, arith, rules}
-use Rattle.std.proofs.lemmas.Bool.{cases_lt}
+-- What `bands_area` needs beyond what the search finds.
+use Rattle.std.proofs.Common.{◌<◌, ◌≤◌, length, arith, rules}
 use Rattle.area.proofs.Areas.{adding_none, adding_next, adding_done}
 use Rattle.area.proofs.bands_area.Goals as goal
 
@@ -18,26 +18,11 @@ band_area-requires c =
     let next = adding_next c.args.bands.now c.loop-rest.sum c.loop-rest.rest.now c.band-item.result c.next-item.result some c.band-item.is c.next-item.is c.loop-rest.invariant in
     omega (arith, next.rises)
 
-pub returns-in_default-band_area : goal.returns-in_default-band_area
-returns-in_default-band_area c =
-    let some : 2 ≤ length c.loop-rest.rest.now = search rules in
-    let next = adding_next c.args.bands.now c.loop-rest.sum c.loop-rest.rest.now c.band-item.result c.next-item.result some c.band-item.is c.next-item.is c.loop-rest.invariant in
-    omega (arith, next.more, c.in_default-band_area.ensures)
-
-pub returns-in_default-checked_add : goal.returns-in_default-checked_add
-returns-in_default-checked_add c =
-    let some : 2 ≤ length c.loop-rest.rest.now = search rules in
-    let next = adding_next c.args.bands.now c.loop-rest.sum c.loop-rest.rest.now c.band-item.result c.next-item.result some c.band-item.is c.next-item.is c.loop-rest.invariant in
-    elim (cases_lt (c.loop-rest.sum + c.in-Some.area) (2 ^ 64)) [
-      | inl l ↦ absurd (c.in_default-checked_add.ensures l)
-      | inr g ↦ omega (arith, g, next.more, c.in-Some.ensures)
-    ]
-
 pub loop-rest-preserved : goal.loop-rest-preserved
 loop-rest-preserved c =
     let some : 2 ≤ length c.loop-rest.rest.now = search rules in
     let next = adding_next c.args.bands.now c.loop-rest.sum c.loop-rest.rest.now c.band-item.result c.next-item.result some c.band-item.is c.next-item.is c.loop-rest.invariant in
-    record { low = _; from = next.from; adds = omega (arith, next.more, c.in-Some.ensures, c.in-Some-checked_add.ensures) }
+    record { low = _; from = next.from; adds = omega (arith, next.more, c.in_ok-area.ensures, c.in_ok-sum.ensures) }
 
 pub returns : goal.returns
 returns c =

@@ -5,7 +5,7 @@ use Rattle.area.proofs.line_length.Goals as goal
 pub loop-rest-preserved : goal.loop-rest-preserved
 loop-rest-preserved c =
     let some : 2 ≤ length c.loop-rest.rest.now = search rules in
-    omega (arith, length_more c.loop-rest.rest.now some, c.in-Some.ensures, c.saturating_sub.ensures, c.loop-rest.invariant)
+    omega (arith, length_more c.loop-rest.rest.now some, c.in_ok-sum.ensures, c.saturating_sub.ensures, c.loop-rest.invariant)
 
 pub returns : goal.returns
 returns c =

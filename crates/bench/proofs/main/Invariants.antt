@@ -1,3 +1,4 @@
+-- What the loop of `main` keeps true.
 use Rattle.std.proofs.Common.{◌^◌, vec_items}
 use Rattle.std.specs.List.{AllByRecursion}
 use Rattle.layout.specs.Rects.{Within}
@@ -7,4 +8,4 @@ abbrev pub invariant-loop-line : goal.invariant-loop-line
 invariant-loop-line l =
     (goal.iterator-loop-line).can_next l.line-iterator ×
     (goal.iterator-loop-line).is_finite l.line-iterator ×
-    AllByRecursion (Within (2 ^ 40)) (vec_items l.boxes)
+    AllByRecursion (Within (2 ^ 40)) (vec_items l.rects)

@@ -1,3 +1,5 @@
+-- What `free` needs beyond what the search finds.
+use Rattle.std.proofs.lemmas.Result.{IfOk-weaker}
 use Rattle.std.proofs.Common.{◌≡◌, suc, ◌-◌, ◌*◌, vec_items, subst, arith}
 use Rattle.scanline.specs.Bands.{covers}
 use Rattle.blocks.specs.Blocks.{free_block}
@@ -9,5 +11,4 @@ pub returns : goal.returns
 returns c =
     let a = covers (vec_items c.args.a.now.bands) in
     let e : suc (c.args.side - 1) ≡ c.args.side = omega (arith, c.requires) in
-    subst (λ n. Exactly (2 * n) a (free_block n a) (covers (vec_items c.in_ok-out.out.bands))) e
-    (freed (c.args.side - 1) a _ _ _ _ c.in_ok-reached.ensures c.in_ok-ends.ensures c.in_ok-blocks.ensures c.in_ok-out.ensures)
+    IfOk-weaker c.shift_back.result _ _ (λ v h. subst (λ n. Exactly (2 * n) a (free_block n a) (covers (vec_items v.bands))) e (freed (c.args.side - 1) a _ _ _ _ c.in_ok-reached.ensures c.in_ok-ends.ensures c.in_ok-blocks.ensures h)) c.shift_back.ensures

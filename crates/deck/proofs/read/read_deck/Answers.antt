@@ -1,3 +1,4 @@
+-- Why `read_deck` meets its contract.
 use Rattle.std.proofs.Common.{◌≡◌, ◌+◌, ◌<◌, [], ◌∷◌, ◌++◌, map, length, get_or, take, vec_items, sym, ap, ◌∙◌, subst}
 use lib.ListN.{length-map}
 use Rattle.std.proofs.lemmas.List.{take_all, take-map, get_or-map}
@@ -17,7 +18,7 @@ loop-place-preserved c =
     let i = c.loop-place.place in
     let deck = c.args.deck.now in
     let text = c.index-deck-place.result in
-    let h : Held (rule_of text) c.in-Ok.rule = rw (c.as_slice.ensures.value, c.number.ensures) at c.in-Ok.ensures in
+    let h : Held (rule_of text) c.in-Ok.rule = rw (c.deref.ensures.value, c.number.ensures) at c.in-Ok.ensures in
     let e : get_or (map rule_of deck) i (rule_of text) ≡ rule_of text = get_or-map rule_of deck i text (rule_of text) c.loop-place-test.true ∙ ap rule_of (sym c.index-deck-place.is) in
     let l : i < length (map rule_of deck) = rw (length-map deck rule_of) c.loop-place-test.true in
     let before : Each Held (take i (map rule_of deck)) (vec_items c.loop-place.rules) = rw (take-map rule_of i deck) c.loop-place.invariant in
@@ -35,7 +36,7 @@ returns-in-Err c =
       rule = rule_of text;
       there = λ d. get_or-map rule_of deck i text d c.loop-place-test.true ∙ ap rule_of (sym c.index-deck-place.is);
       earlier = rw (take-map rule_of i deck) (each_left Held Takes (λ t r h. taken_is t.regions (rule_number t.kind) t.number r h) (map rule_of (take i deck)) (vec_items c.loop-place.rules) c.loop-place.invariant);
-      turned = rw (c.as_slice.ensures.value, c.number.ensures) at c.in-Err.ensures;
+      turned = rw (c.deref.ensures.value, c.number.ensures) at c.in-Err.ensures;
     }
 
 pub returns : goal.returns

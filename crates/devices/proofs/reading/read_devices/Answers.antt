@@ -17,8 +17,8 @@ returns-in_default c = λ k d known.
     let ts = vec_items c.args.channels.now.tiles in
     let rs = vec_items c.args.channels.now.roots in
     let i = c.loop-i.i in
-    let within : i < length ts = omega (arith, c.loop-i-test.true, c.requires.terminals) in
-    let inside : i < length rs = omega (arith, within, c.requires.roots) in
+    let within : i < length ts = omega (arith, c.loop-i-test.true, c.requires) in
+    let inside : i < length rs = omega (arith, within, c.args.channels.now.long) in
     let root : c.index.result.now ≡ root_of rs i = get_or_read rs i c.index.result.now inside c.index.ensures i in
     let tile : c.index-tile.result.now ≡ tile_at ts i = get_or_read ts i c.index-tile.result.now within c.index-tile.ensures none in
     subst (λ t. OddAt k d (spot_of k t.left t.top)) (sym tile)
@@ -29,8 +29,8 @@ loop-i-preserved c = λ k d known.
     let ts = vec_items c.args.channels.now.tiles in
     let rs = vec_items c.args.channels.now.roots in
     let i = c.loop-i.i in
-    let within : i < length ts = omega (arith, c.loop-i-test.true, c.requires.terminals) in
-    let inside : i < length rs = omega (arith, within, c.requires.roots) in
+    let within : i < length ts = omega (arith, c.loop-i-test.true, c.requires) in
+    let inside : i < length rs = omega (arith, within, c.args.channels.now.long) in
     let root : c.index.result.now ≡ root_of rs i = get_or_read rs i c.index.result.now inside c.index.ensures i in
     elim c.if-index-i.branch [
       | then-index-i+in-Some+in_ok-push w ↦
@@ -42,4 +42,4 @@ loop-i-preserved c = λ k d known.
     ]
 
 pub returns : goal.returns
-returns c = λ k d known. going-all k d _ _ c.args.terminals.now known c.loop-i.i _ (c.loop-i.invariant k d known) (omega (arith, c.loop-i-test.false, c.requires.terminals))
+returns c = λ k d known. going-all k d _ _ c.args.terminals.now known c.loop-i.i _ (c.loop-i.invariant k d known) (omega (arith, c.loop-i-test.false, c.requires))

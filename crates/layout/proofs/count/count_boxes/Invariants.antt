@@ -5,4 +5,4 @@ use Rattle.layout.specs.Counts.{Counted}
 use Rattle.layout.proofs.count.count_boxes.Given as goal
 
 abbrev pub invariant-loop-n : goal.invariant-loop-n
-invariant-loop-n l = (length l.counts ≡ max_nodes) × Counted l.nodes l.counts l.n
+invariant-loop-n l = (length l.counts ≡ max_nodes) × Counted l.nodes.numbers.now l.counts l.n

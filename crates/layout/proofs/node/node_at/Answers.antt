@@ -1,6 +1,6 @@
 -- What `node_at` needs beyond what the search finds.
 use Rattle.std.proofs.Common.{arith}
-use Rattle.layout.proofs.Nodes.{read-0, read-1, read-2, read-3, read-4, read-5, read-6, read-7, late-2a, late-2b, late-3, late-4, late-5, late-6, late-7, no_kind}
+use Rattle.layout.proofs.Reading.{read-0, read-1, read-2, read-3, read-4, read-5, read-6, read-7, late-2a, late-2b, late-3, late-4, late-5, late-6, late-7, no_kind}
 use Rattle.layout.proofs.node.node_at.Goals as goal
 
 pub returns-in-0 : goal.returns-in-0

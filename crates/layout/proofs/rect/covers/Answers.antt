@@ -1,13 +1,13 @@
 -- What `covers` needs beyond what the search finds.
-use Rattle.std.proofs.Common.{arith}
-use Rattle.layout.proofs.Rects.{covered-hit, covered_next, covered-end}
+use Rattle.std.proofs.Common.{rules, ◌∙◌, sym}
+use Rattle.std.proofs.lemmas.Iterator.{YieldsList-from_slice}
+use Rattle.std.proofs.lemmas.Iterator.Search.{any_from_yields_List}
+use borrow.Author.Tests.{tests}
+use Rattle.layout.specs.Rects.{in_rect}
+use Rattle.layout.proofs.Rects.{covered-any}
 use Rattle.layout.proofs.rect.covers.Goals as goal
 
-pub returns-then-contains : goal.returns-then-contains
-returns-then-contains c = covered-hit c.args.rects.now c.loop-q.q-index _ _ _ c.loop-q.invariant _ (omega arith) c.if-contains.ensures
-
-pub loop-q-preserved : goal.loop-q-preserved
-loop-q-preserved c = covered_next c.args.rects.now c.loop-q.q-index _ _ _ c.loop-q.invariant _ (omega arith) c.if-contains.ensures
-
 pub returns : goal.returns
-returns c = covered-end c.args.rects.now c.loop-q.q-index _ _ _ c.loop-q.invariant (omega arith)
+returns c =
+    any_from_yields_List (λ q. in_rect q c.args.layer c.args.x c.args.y) _ _ _ c.any.ensures.ran (YieldsList-from_slice c.args.rects.now cc) (λ x b q k. search (rules, tests))
+    ∙ sym (covered-any c.args.layer c.args.x c.args.y c.args.rects.now)

@@ -4,4 +4,4 @@ use Rattle.layout_writer.specs.Cells.{uses_below}
 use Rattle.layout_writer.proofs.cell.has_cell.Given as goal
 
 abbrev pub invariant-loop-n : goal.invariant-loop-n
-invariant-loop-n l = (l.total ≡ uses_below l.layout l.m l.n) × (l.total ≤ 2 * l.n)
+invariant-loop-n l = (l.total ≡ uses_below l.nodes.numbers.now l.m l.n) × (l.total ≤ 2 * l.n)

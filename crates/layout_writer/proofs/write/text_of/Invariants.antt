@@ -4,4 +4,4 @@ use Rattle.layout_writer.specs.Texts.{cells_text}
 use Rattle.layout_writer.proofs.write.text_of.Given as goal
 
 abbrev pub invariant-loop-n : goal.invariant-loop-n
-invariant-loop-n l = string_bytes l.text ≡ cells_text l.layout l.n
+invariant-loop-n l = string_bytes l.text ≡ cells_text l.nodes.numbers.now l.n

@@ -1,14 +1,9 @@
-use Rattle.std.proofs.Common.{sym, refl, ap, ◌∙◌}
-use Rattle.std.proofs.lemmas.List.{drop_all}
-use Rattle.scanline.specs.Spans.{least_end}
-use Rattle.scanline.proofs.Advances.{least_more}
+-- What `first_end` needs beyond what the search finds.
+use Rattle.std.proofs.Common.{min, rules}
+use Rattle.std.proofs.lemmas.Iterator.{YieldsList-from_slice}
+use Rattle.std.proofs.lemmas.Iterator.Consumers.{fold_from_yields_List}
+use borrow.Author.Tests.{tests}
 use Rattle.scanline.proofs.live.first_end.Goals as goal
 
-pub loop-span-init : goal.loop-span-init
-loop-span-init c = refl
-
-pub loop-span-preserved : goal.loop-span-preserved
-loop-span-preserved c = rw c.min-first.ensures (least_more c.args.row c.args.spans.now c.loop-span.span-index c.loop-span.first c.loop-span-test.true c.loop-span.invariant)
-
 pub returns : goal.returns
-returns c = sym (ap (λ v. least_end c.loop-span.first v) (drop_all c.loop-span.span-index c.args.spans.now c.loop-span-test.false)) ∙ c.loop-span.invariant
+returns c = fold_from_yields_List _ (λ m s. min m s.bottom) c.args.row c.fold.result c.fold.ensures.ran (YieldsList-from_slice c.args.spans.now cc) (λ a x b q k. search (rules, tests))

@@ -1,26 +1,28 @@
--- Why `find_tile` meets its contract.
-use Rattle.std.proofs.Common.{◌+◌, ◌-◌, ◌/◌, ◌<◌, length, refl, arith}
+-- Why the last tile that starts is the one that holds the square, if one does.
+use Rattle.std.proofs.Common.{rules, subst, sym, arith}
+use Rattle.std.specs.Bool.{one_answer}
 use Rattle.std.proofs.lemmas.Bool.{both_ways}
-use Rattle.tiles.proofs.Tiles.{holds-within}
-use Rattle.tiles.proofs.Finds.{find-after, find-before}
+use Rattle.std.proofs.lemmas.List.Sorted.{IsPartitionPoint-from_clause}
+use Rattle.tiles.specs.Tiles.{Located}
+use Rattle.tiles.proofs.Finds.{starts_test, starts_decides, starts-parted, none-after, only-last}
 use Rattle.tiles.proofs.find.find_tile.Goals as goal
 
-pub loop-low-init : goal.loop-low-init
-loop-low-init c = (omega arith, λ i h. (omega arith, holds-within _ i _ _ _ h))
+pub returns-in_err-last : goal.returns-in_err-last
+returns-in_err-last c =
+    let ts = c.args.tiles.now in
+    let l = c.args.layer in
+    let x = c.args.x in
+    let y = c.args.y in
+    let n = c.partition_point-begun.result in
+    let point = IsPartitionPoint-from_clause (starts_test l x y) ts n c.partition_point-begun.ensures.partitioned (starts-parted ts c.requires l x y) (λ a r q k. search (rules, one_answer, starts_decides)) in
+    subst (Located ts l x y) (sym c.from_residual.ensures) (λ i h. none-after ts c.requires l x y n c.partition_point-begun.ensures.bound point i (omega (arith, c.in_err-last.ensures)) h)
 
-pub loop-low-preserved-then-starts : goal.loop-low-preserved-then-starts
-loop-low-preserved-then-starts c =
-    let within : c.loop-low.low + (c.loop-low.high - c.loop-low.low) / 2 < length c.args.tiles.now = omega arith in (
-      c.loop-low.invariant.0,
-      λ i h. (
-        find-after _ c.requires _ _ _ _ within (c.if-starts.ensures.0 refl) (λ k. both_ways _ c.if-contains.false (c.contains.ensures.1 k)) i h,
-        (c.loop-low.invariant.1 i h).1,
-      ),
-    )
-
-pub loop-low-preserved : goal.loop-low-preserved
-loop-low-preserved c =
-    let within : c.loop-low.low + (c.loop-low.high - c.loop-low.low) / 2 < length c.args.tiles.now = omega arith in (
-      omega arith,
-      λ i h. ((c.loop-low.invariant.1 i h).0, find-before _ c.requires _ _ _ _ within (λ k. both_ways _ c.if-starts.false (c.starts.ensures.1 k)) i h),
-    )
+pub returns-else-contains : goal.returns-else-contains
+returns-else-contains c =
+    let ts = c.args.tiles.now in
+    let l = c.args.layer in
+    let x = c.args.x in
+    let y = c.args.y in
+    let n = c.partition_point-begun.result in
+    let point = IsPartitionPoint-from_clause (starts_test l x y) ts n c.partition_point-begun.ensures.partitioned (starts-parted ts c.requires l x y) (λ a r q k. search (rules, one_answer, starts_decides)) in
+    only-last ts c.requires l x y n c.partition_point-begun.ensures.bound point c.in_ok-last.last (omega (arith, c.in_ok-last.ensures)) (λ h. both_ways _ c.if-contains.false (c.contains.ensures.1 h))

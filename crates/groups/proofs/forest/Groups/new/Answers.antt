@@ -1,22 +1,25 @@
 -- Why `new` meets its contract.
-use Rattle.std.proofs.Common.{◌≡◌, get_or, vec_items, refl, ◌∙◌, subst, arith, below_more}
+use Rattle.std.proofs.Common.{◌≡◌, ◌<◌, ℕ, List, length, get_or, vec_items, refl, ap, ◌∙◌, subst, arith}
+use Rattle.std.specs.Result.{IfOk}
+use Rattle.std.specs.List.{range_with_len}
+use Rattle.std.proofs.lemmas.List.FromFn.{length-range_with_len, get_or-range_with_len}
+use Rattle.std.proofs.lemmas.Iterator.{YieldsList-from_range, items_from_collect}
 use Rattle.groups.proofs.Roots.{root-at, all_own}
 use Rattle.groups.proofs.forest.Groups.new.Goals as goal
 
-pub loop-i-preserved : goal.loop-i-preserved
-loop-i-preserved c = (
-  omega (arith, c.in_ok-push.ensures.len, c.loop-i.invariant.0),
-  λ k d h. below_more (λ m. get_or (vec_items c.push.new.self) m d ≡ m) c.loop-i.i
-      (λ m l. c.in_ok-push.ensures.by_index.0 m d (omega (arith, c.loop-i.invariant.0)) ∙ c.loop-i.invariant.1 m d l)
-      (subst (λ m. get_or (vec_items c.push.new.self) m d ≡ c.loop-i.i) c.loop-i.invariant.0 (c.in_ok-push.ensures.by_index.1 d refl)) k h,
-)
+-- each item of the list of the first n numbers stands at its own place
+own : (n : ℕ) (xs : List ℕ) → xs ≡ range_with_len 0 n → (k : ℕ) → k < length xs → get_or xs k k ≡ k
+own n xs e k h =
+    ap (λ v. get_or v k k) e ∙ get_or-range_with_len 0 n k k (omega (arith, ap length e, length-range_with_len 0 n)) ∙ omega arith
 
 pub invariant_of-result : goal.invariant_of-result
 invariant_of-result c =
-    record { falls = λ i. omega (arith, all_own (vec_items c.loop-i.parents) (λ k h. c.loop-i.invariant.1 k k (omega (arith, c.loop-i.invariant.0, c.loop-i.parents.ok.0))) i) }
+    let items = subst (λ r. IfOk r (λ w. vec_items w ≡ range_with_len 0 c.args.n)) c.in_ok-parents.was (items_from_collect c.collect.result c.collect.ensures.ran (YieldsList-from_range 0 c.args.n c.args.n refl (omega arith))) in
+    let at = own c.args.n (vec_items c.in_ok-parents.parents) items in
+    record { falls = λ i. omega (arith, all_own (vec_items c.in_ok-parents.parents) at i) }
 
 pub returns : goal.returns
-returns c = (
-  omega (arith, c.loop-i.invariant.0, c.loop-i.auto.i-end),
-  λ a. root-at _ a (all_own (vec_items c.loop-i.parents) (λ k h. c.loop-i.invariant.1 k k (omega (arith, c.loop-i.invariant.0, c.loop-i.parents.ok.0))) a),
-)
+returns c =
+    let items = subst (λ r. IfOk r (λ w. vec_items w ≡ range_with_len 0 c.args.n)) c.in_ok-parents.was (items_from_collect c.collect.result c.collect.ensures.ran (YieldsList-from_range 0 c.args.n c.args.n refl (omega arith))) in
+    let at = own c.args.n (vec_items c.in_ok-parents.parents) items in
+    (c.in_ok-parents.parents.ok.0 ∙ ap length items ∙ length-range_with_len 0 c.args.n, λ a. root-at _ a (all_own (vec_items c.in_ok-parents.parents) at a))

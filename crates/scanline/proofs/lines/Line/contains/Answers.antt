@@ -1,16 +1,13 @@
-use Rattle.std.proofs.Common.{ap, ◌∙◌}
-use Rattle.scanline.specs.Lines.{inside}
-use Rattle.scanline.proofs.Walks.{walk_none, walk_more, walk_stop, walk_all}
+-- What `contains` needs beyond what the search finds.
+use Rattle.std.proofs.Common.{leb, length, vec_items, ap, rules, arith}
+use Rattle.std.proofs.lemmas.List.Sorted.{IsPartitionPoint-from_clause, IsPartitionedBy-leb}
+use Rattle.scanline.proofs.Merge.{rises-from}
+use Rattle.scanline.proofs.Walks.{rising, odd_inside}
 use Rattle.scanline.proofs.lines.Line.contains.Goals as goal
 
-pub loop-edge-init : goal.loop-edge-init
-loop-edge-init c = walk_none _ c.args.x (rw c.as_slice-edge-items.ensures.value c.args.self.now.sorted)
-
-pub returns-then-edge-x : goal.returns-then-edge-x
-returns-then-edge-x c = walk_stop _ _ _ _ c.loop-edge.invariant c.loop-edge-test.true c.if-edge-x.true ∙ ap (λ es. inside es c.args.x) c.as_slice-edge-items.ensures.value
-
-pub loop-edge-preserved : goal.loop-edge-preserved
-loop-edge-preserved c = walk_more _ _ _ _ c.loop-edge.invariant c.loop-edge-test.true c.if-edge-x.false
-
 pub returns : goal.returns
-returns c = walk_all _ _ _ _ c.loop-edge.invariant c.loop-edge-test.false ∙ ap (λ es. inside es c.args.x) c.as_slice-edge-items.ensures.value
+returns c =
+    let es = vec_items c.args.self.now.edges in
+    let parted = IsPartitionedBy-leb (λ e. e) es c.args.x (rising 0 es (rises-from 0 es c.args.self.now.sorted)) in
+    odd_inside es c.args.x c.partition_point.result (omega (arith, c.partition_point.ensures.bound, ap length c.deref.ensures.value))
+    (IsPartitionPoint-from_clause (λ e. leb e c.args.x) es _ (rw c.deref.ensures.value at c.partition_point.ensures.partitioned) parted (λ a r q k. search rules))

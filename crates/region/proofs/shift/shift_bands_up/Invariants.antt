@@ -1,6 +1,0 @@
-use Rattle.std.proofs.Common.{vec_items}
-use Rattle.region.proofs.Moves.{Rising}
-use Rattle.region.proofs.shift.shift_bands_up.Given as goal
-
-abbrev pub invariant-loop-band : goal.invariant-loop-band
-invariant-loop-band l = Rising l.by l.bands (vec_items l.out) l.band-index

@@ -1,0 +1,48 @@
+// Lists of what begins at places, one after another: the edges of a line, the bands of a region.
+ghost use Rattle.std.specs.Prelude.{◌≡◌, ℕ};
+ghost use Rattle.scanline.specs.Starts.{first_start, past, starting};
+
+/// What begins at a place.
+pub trait Starts {
+    ghost start_of: { Self → ℕ };
+
+    fn start(&self) -> u64
+        ensures { result ≡ start_of self.now };
+}
+
+impl Starts for u64 {
+    ghost start_of = { λ edge. edge };
+
+    fn start(&self) -> u64 {
+        *self
+    }
+}
+
+/// Where the first of either list begins, if one is left.
+pub fn first_start<T: Starts>(a: &[T], b: &[T]) -> Option<u64>
+    ensures { result ≡ first_start T.start_of a.now b.now }
+{
+    match (a, b) {
+        ([], []) => None,
+        ([x, ..], []) => Some(x.start()),
+        ([], [y, ..]) => Some(y.start()),
+        ([x, ..], [y, ..]) => Some(x.start().min(y.start())),
+    }
+}
+
+/// Goes past the first of a list where it begins at the place: what does, and what is left.
+pub fn pass<T: Starts>(list: &[T], at: u64) -> (&[T], &[T])
+    ensures here { result.0.now ≡ starting T.start_of at list.now }
+    ensures rest { result.1.now ≡ past T.start_of at list.now }
+{
+    match list {
+        [first, ..] => {
+            if first.start() == at {
+                list.split_at(1)
+            } else {
+                (&[], list)
+            }
+        }
+        [] => (&[], list),
+    }
+}
