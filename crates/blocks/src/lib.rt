@@ -44,7 +44,8 @@ fn corners(heap: Global, a: &Region, by: u64) -> Result<Region, AllocError>
     shift_back(heap, &ends, by)
 }
 
-// The squares that lie in a block of `side` by `side` squares of the region.
+// The squares that lie in a block of `side` by `side` squares of the region. The side is a number and a clause: with a
+// `NonZeroU64` each definition would have to read the number out of it.
 pub fn open(heap: Global, a: &Region, side: u64) -> Result<Region, AllocError>
     requires { 0 < side }
     ensures { IfOk result (λ v. Exactly (2 * side) (covers a.now.bands.items) (in_a_block side (covers a.now.bands.items)) (covers v.bands.items)) }

@@ -52,7 +52,7 @@ fn meeting_region(
     }
 }
 
-// One border for the first square of each box.
+// One border for the first square of each box. `Laid` is a clause and no ghost field, since it holds `Ordered`.
 fn add_borders(
     borders: &mut Vec<Border>,
     crossing: &Crossing,

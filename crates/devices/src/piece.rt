@@ -16,7 +16,7 @@ use tiles::find::find_tile;
 use tiles::link::link_tiles;
 use tiles::tile::Tile;
 
-/// Tiles in order, and of each the first tile of its group.
+/// Tiles in order, and of each the first tile of its group; apart, since tiles are searched as one array.
 #[derive(Drop)]
 pub struct Pieces {
     pub tiles: Vec<Tile>,

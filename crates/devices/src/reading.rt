@@ -17,7 +17,7 @@ pub struct Device {
     pub other: Terminal,
 }
 
-/// All devices of a layout, or a channel that is none.
+/// All devices of a layout, or a channel that is none: an answer and no failure, so that it is no `Result`.
 #[derive(Clone, Copy, Debug, PartialEq, Drop)]
 pub enum Found<T> {
     Devices(T),

@@ -71,7 +71,7 @@ fn broken_lines(heap: Global, deck: &[RuleText], broken: &[Region]) -> Result<Ve
     let mut out = Vec::new(heap);
     for (rule, region) in deck.iter().zip(broken.iter()) {
         if let Some((x, y)) = region.first() {
-            add_broken(heap, &mut out, rule.message.as_slice(), x, y)?;
+            add_broken(heap, &mut out, &rule.message, x, y)?;
         }
     }
     Ok(out)
@@ -79,21 +79,12 @@ fn broken_lines(heap: Global, deck: &[RuleText], broken: &[Region]) -> Result<Ve
 
 // The lines of the broken rules.
 fn judge_texts(heap: Global, layout: &[u8], rules: &[u8]) -> Result<Vec<u8>, Stop> {
-    let text = match read_layout(heap, layout) {
-        Ok(text) => text,
-        Err(fault) => return Err(stop_at(File::Layout, fault)),
-    };
-    let deck = match read_rules(heap, rules) {
-        Ok(deck) => deck,
-        Err(fault) => return Err(stop_at(File::Rules, fault)),
-    };
-    match judge_deck(heap, text.nodes.as_slice(), deck.as_slice()) {
-        Ok(broken) => {
-            let out = broken_lines(heap, deck.as_slice(), broken.as_slice())?;
-            Ok(out)
-        }
-        Err(fault) => Err(stop_deck(&text, deck.as_slice(), fault)),
-    }
+    let text = read_layout(heap, layout).map_err(|fault| stop_at(File::Layout, fault))?;
+    let deck = read_rules(heap, rules).map_err(|fault| stop_at(File::Rules, fault))?;
+    let broken = judge_deck(heap, &text.nodes, &deck)
+        .map_err(|fault| stop_deck(&text, &deck, fault))?;
+    let out = broken_lines(heap, &deck, &broken)?;
+    Ok(out)
 }
 
 // A file's bytes, or a message.
@@ -113,15 +104,13 @@ fn refuse(
     line: Option<usize>,
     refusal: Refusal,
 ) -> anyhow::Result<ExitCode> {
-    let number = refusal.number();
-    let place = refusal.place();
     let what = sentence(refusal);
     match line {
         Some(line) => {
             let shown = line.saturating_add(1);
-            eprintln!(rt; "{path}:{shown}: {what} (refusal {number} at {place})")?;
+            eprintln!(rt; "{path}:{shown}: {what} ({refusal})")?;
         }
-        None => eprintln!(rt; "{path}: {what} (refusal {number} at {place})")?,
+        None => eprintln!(rt; "{path}: {what} ({refusal})")?,
     }
     Ok(ExitCode::FAILURE)
 }
@@ -133,13 +122,13 @@ fn run(rt: &HostRuntime, layout: &str, rules: &str) -> anyhow::Result<ExitCode> 
     let Some(rule_bytes) = read_file(rt, rules)? else {
         return Ok(ExitCode::FAILURE);
     };
-    match judge_texts(rt.alloc(), layout_bytes.as_slice(), rule_bytes.as_slice()) {
+    match judge_texts(rt.alloc(), &layout_bytes, &rule_bytes) {
         Ok(out) => {
             if out.is_empty() {
                 println!(rt; "clean")?;
                 return Ok(ExitCode::SUCCESS);
             }
-            rt.stdout().write_all(out.as_slice())?;
+            rt.stdout().write_all(&out)?;
             Ok(ExitCode::FAILURE)
         }
         Err(Stop::Refused(File::Layout, line, refusal)) => refuse(rt, layout, line, refusal),
@@ -159,7 +148,7 @@ fn main(rt: HostRuntime) -> anyhow::Result<ExitCode> {
     let rules = words.next();
     let more = words.next();
     match (layout, rules, more) {
-        (Some(layout), Some(rules), None) => run(&rt, layout.as_str(), rules.as_str()),
+        (Some(layout), Some(rules), None) => run(&rt, &layout, &rules),
         _ => {
             eprintln!(rt; "usage: drc LAYOUT RULES")?;
             Ok(ExitCode::FAILURE)

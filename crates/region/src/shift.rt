@@ -1,4 +1,5 @@
-// Regions moved in the four directions.
+// Regions moved in the four directions. Later rows can pass the last one, and earlier ones the first, so the two are no
+// twins; to the right and left each line is moved by itself.
 ghost use Rattle.std.specs.Prelude.{IfOk};
 ghost use Rattle.region.specs.Shifts.{ShiftedRight, ShiftedLeft, ShiftedDown, ShiftedUp};
 

@@ -1,5 +1,6 @@
 // What judging a rule says.
 
+// An enum of its own and no `Option`, since `None` would not say which answer is the good one.
 #[derive(Clone, Copy, Debug, PartialEq, Eq)]
 pub enum Verdict {
     Clean,

@@ -1,4 +1,4 @@
-// Lines moved to the right and to the left.
+// Lines moved to the right, where edges may pass the last column, and to the left, where they may fall together.
 ghost use Rattle.std.specs.Prelude.{◌≡◌, IfOk, OnOk};
 ghost use Rattle.scanline.specs.Lines.{MovedRight, MovedLeft, ends_in, Toggled};
 

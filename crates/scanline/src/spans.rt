@@ -24,7 +24,8 @@ fn span_of(b: Rect, layer: u64) -> Option<Span>
     None
 }
 
-// The spans of the boxes of a layer.
+// The spans of the boxes of a layer. Up to 2^63, as far as sums fit: the boxes of layouts, whose type says 2^40, are
+// fewer.
 fn spans_of(heap: Global, boxes: &[Rect], layer: u64) -> Result<Vec<Span>, AllocError>
     requires { AllByRecursion (Within (2 ^ 63)) boxes.now }
     ensures solid { IfOk result (λ v. AllByRecursion Solid v.items) }

@@ -9,6 +9,7 @@ use std::alloc::{AllocError, Global};
 
 impl Line {
     // Overlapping and touching columns become one interval, from `from` up to `to`; it is written once a gap follows.
+    // `ByColumns` stays a clause: the sweep splits and joins such slices, and no value is passed that could carry it.
     pub fn of_spans(heap: Global, spans: &[Span]) -> Result<Line, AllocError>
         requires { ByColumns 0 spans.now }
         ensures { IfOk result (λ v. (x : ℕ) → inside v.edges.items x ≡ any_across spans.now x) }
