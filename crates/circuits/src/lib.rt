@@ -12,7 +12,7 @@ pub mod search;
 mod table;
 
 use layout::refusal::Refusal;
-use netlist::{Circuit, is_circuit, read};
+use netlist::{Circuit, is_circuit, likes, read};
 use pairing::{Pairing, own_partners};
 use search::pairable;
 
@@ -44,8 +44,9 @@ pub fn compare(
         return Err(Refusal::Circuit(2));
     }
     let (room_a, room_b) = (read(a), read(b));
-    let first = Circuit::new(nets_a, a, &room_a);
-    let second = Circuit::new(nets_b, b, &room_b);
+    let (likes_a, likes_b) = (likes(&room_a[..a.len() / 3]), likes(&room_b[..b.len() / 3]));
+    let first = Circuit::new(nets_a, a, &room_a, &likes_a);
+    let second = Circuit::new(nets_b, b, &room_b, &likes_b);
     let own = own_partners(named as usize);
     if pairable(first, second, Pairing { to: own, back: own }) {
         Ok(Comparison::Equal)

@@ -1,15 +1,8 @@
 -- Why count does what its contract says.
-use Rattle.std.proofs.Common.{ℕ, cond, ◌∙◌, rules, tests}
-use Rattle.std.proofs.lemmas.Iterator.{YieldsList-from_slice, YieldsList-from_map}
-use Rattle.std.proofs.lemmas.Iterator.Consumers.{YieldsList-at, sum_by_from_yields_List}
-use Rattle.circuits.specs.Netlists.{fits}
-use Rattle.circuits.specs.declared.netlist.Device.{Device}
-use Rattle.circuits.proofs.Comparisons.{counted}
+use Rattle.std.proofs.Common.{length, sym}
+use Rattle.circuits.specs.Netlists.{device_at}
+use Rattle.circuits.proofs.Pairings.{weight-none}
 use Rattle.circuits.proofs.netlist.Circuit.count.Goals as goal
 
-pub returns : goal.returns
-returns c =
-    let like : Device → ℕ = λ p. cond (fits p c.args.device) 1 0 in
-    sum_by_from_yields_List like c.args.self.now.devices.now c.map.result _ c.sum.ensures.ran
-    (YieldsList-from_map _ like (YieldsList-at c.map.ensures.source (YieldsList-from_slice c.args.self.now.devices.now cc)) c.map.ensures.closure (λ x r q k. search (rules, tests)))
-    ∙ counted c.args.self.now.devices.now c.args.device
+pub returns-in-None : goal.returns-in-None
+returns-in-None c = sym (weight-none (length c.args.self.now.devices.now) (device_at c.args.self.now.devices.now) c.args.device c.in-None.ensures)
