@@ -95,26 +95,15 @@ fn count(devices: &[Device], device: Device) -> usize
         .sum()
 }
 
-/// The device at a place; behind the last, one of no meaning.
-fn device_or_none(devices: &[Device], place: u8) -> Device
-    ensures { result ≡ device_at devices.now place }
-{
-    if usize::from(place) >= devices.len() {
-        return Device {
-            gate: 0,
-            one: 0,
-            other: 0,
-        };
-    }
-    devices[usize::from(place)]
-}
-
 /// How many devices are like each one, counted once for the whole search.
 pub fn likes(devices: &[Device]) -> [usize; 256]
     requires { length devices.now ≤ 256 }
-    ensures { (i : ℕ) → i < 256 → slice_index result i ≡ has devices.now (device_at devices.now i) }
+    ensures { (i : ℕ) → i < length devices.now → slice_index result i ≡ has devices.now (device_at devices.now i) }
 {
-    table(|place| count(devices, device_or_none(devices, place)))
+    table(|place| match devices.get(usize::from(place)) {
+        Some(device) => count(devices, *device),
+        None => 0,
+    })
 }
 
 /// A circuit that is checked: at most 256 devices over 1 to 256 nets, and how many are like each.
@@ -139,7 +128,7 @@ impl<'a> Circuit<'a> {
     ) -> Circuit<'a>
         requires circuit { circuit_ok nets numbers.now ≡ true }
         requires read { (i : ℕ) → i < 256 → slice_index_or room.now i none ≡ slice_index_or (devices_in numbers.now) i none }
-        requires counted { (i : ℕ) → i < 256 → slice_index likes.now i ≡ has (devices_in numbers.now) (device_at (devices_in numbers.now) i) }
+        requires counted { (i : ℕ) → i < length (devices_in numbers.now) → slice_index likes.now i ≡ has (devices_in numbers.now) (device_at (devices_in numbers.now) i) }
         ensures nets { result.nets ≡ nets }
         ensures devices { result.devices.now ≡ devices_in numbers.now }
     {

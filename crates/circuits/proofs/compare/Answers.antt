@@ -57,13 +57,13 @@ pub new-first-requires-clause-counted : goal.new-first-requires-clause-counted
 new-first-requires-clause-counted c =
     let long : length c.read-room_a.result ≡ 256 = search rules in
     let s = ok_sound _ _ (sym c.is_circuit.ensures ∙ c.if-not-is_circuit.false) in
-    subst (λ vs. (i : ℕ) → i < 256 → get_or c.likes-likes_a.result i 0 ≡ has vs (device_at vs i)) (room_is _ _ long s.few c.read-room_a.ensures) c.likes-likes_a.ensures
+    subst (λ vs. (i : ℕ) → i < length vs → get_or c.likes-likes_a.result i 0 ≡ has vs (device_at vs i)) (room_is _ _ long s.few c.read-room_a.ensures) c.likes-likes_a.ensures
 
 pub new-second-requires-clause-counted : goal.new-second-requires-clause-counted
 new-second-requires-clause-counted c =
     let long : length c.read-room_b.result ≡ 256 = search rules in
     let s = ok_sound _ _ (sym c.is_circuit-2.ensures ∙ c.if-not-is_circuit-2.false) in
-    subst (λ vs. (i : ℕ) → i < 256 → get_or c.likes-likes_b.result i 0 ≡ has vs (device_at vs i)) (room_is _ _ long s.few c.read-room_b.ensures) c.likes-likes_b.ensures
+    subst (λ vs. (i : ℕ) → i < length vs → get_or c.likes-likes_b.result i 0 ≡ has vs (device_at vs i)) (room_is _ _ long s.few c.read-room_b.ensures) c.likes-likes_b.ensures
 
 pub returns-then-pairable : goal.returns-then-pairable
 unfolding ComparisonSays

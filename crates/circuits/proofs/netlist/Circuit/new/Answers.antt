@@ -16,7 +16,7 @@ invariant_of-result c =
       some = n.some;
       few = omega (arith, ap length e, n.few);
       low = subst (λ vs. (i : ℕ) → i < length vs → Below c.args.nets (device_at vs i)) (sym e) n.nets;
-      counted = λ i l. subst (λ vs. get_or c.args.likes.now i 0 ≡ has vs (device_at vs i)) (sym e) (c.requires.counted i (omega (arith, l, ap length e, n.few)));
+      counted = subst (λ vs. (i : ℕ) → i < length vs → get_or c.args.likes.now i 0 ≡ has vs (device_at vs i)) (sym e) c.requires.counted;
     }
 
 pub returns-clause-devices : goal.returns-clause-devices
