@@ -11,7 +11,8 @@ use Rattle.words.specs.declared.word.Marks.TheVariants.{Plain}
 use Rattle.words.specs.Words.{token_of, Cut}
 use Rattle.words.specs.declared.word.Word.{Word}
 use Rattle.circuit_text.specs.Circuits.{Circuit, blank, spelled}
-use Rattle.circuit_text.specs.Statements.{new_names, pinned, said_by, stated, Follows}
+use Rattle.circuit_text.specs.Statements.{new_names, pinned, said_by, stated}
+use Rattle.layout.specs.Refusals.{Follows}
 use Rattle.words.proofs.Listings.{Listing, list-stopped}
 use Rattle.circuit_text.specs.CircuitTexts.{LinesRead}
 

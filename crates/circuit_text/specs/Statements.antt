@@ -1,10 +1,6 @@
 -- What each line of a circuit text says. Assumes nothing: these are definitions.
-use Rattle.std.specs.Prelude.{◌≡◌, ℕ, cond, List, [], ◌∷◌, ◌++◌, map, length, Some, Ok, Err, codes, Result}
+use Rattle.std.specs.Prelude.{ℕ, cond, List, [], ◌∷◌, ◌++◌, map, length, Some, Ok, Err, codes, Result}
 use Rattle.std.specs.Str.{bytes_eq}
-use Rattle.layout.specs.declared.refusal.Fault.{Fault}
-use Rattle.layout.specs.declared.refusal.Fault.TheVariants.{Refused, Memory}
-use Rattle.layout.specs.declared.refusal.Refusal.TheVariants.{Text}
-use Rattle.layout.specs.Refusals.{place_of as place_in}
 use Rattle.words.specs.Words.{words_of}
 use Rattle.words.specs.Places.{place_of}
 use Rattle.words.specs.Steps.{by_some, and_then}
@@ -46,9 +42,3 @@ said_by n c (w ∷ ws) = cond (bytes_eq w (codes "pins")) (pinned n c ws) (cond 
 -- the circuit after line n; a line without words says nothing
 abbrev pub stated : ℕ → Circuit → List ℕ → Result Circuit ℕ
 stated n c line = said_by n c (map (λ t. t.bytes) (words_of Plain line))
-
--- an answer follows a model; nothing is said where memory ran out
-abbrev pub Follows : {U : Type 0} → Result Circuit ℕ → Circuit → Result U Fault → Type 0
-Follows m c (Ok u) = m ≡ Ok c
-Follows m c (Err (Refused e)) = (e ≡ Text (place_in e)) × (m ≡ Err (place_in e))
-Follows m c (Err Memory) = Unit {0}

@@ -1,7 +1,8 @@
 // The statements of a circuit text.
 ghost use Rattle.std.specs.Prelude.{◌≡◌, map, IfOk, OnOk};
+ghost use Rattle.layout.specs.Refusals.{Follows};
 ghost use Rattle.circuit_text.specs.Circuits.{circuit_of, net_of, with_net, named_by, spelled};
-ghost use Rattle.circuit_text.specs.Statements.{pinned, joined, stated, Follows};
+ghost use Rattle.circuit_text.specs.Statements.{pinned, joined, stated};
 
 use super::circuit::{CircuitText, Pins};
 use layout::refusal::{Fault, Refusal};

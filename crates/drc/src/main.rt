@@ -81,8 +81,9 @@ fn broken_lines(heap: Global, deck: &[RuleText], broken: &[Region]) -> Result<Ve
 fn judge_texts(heap: Global, layout: &[u8], rules: &[u8]) -> Result<Vec<u8>, Stop> {
     let text = read_layout(heap, layout).map_err(|fault| stop_at(File::Layout, fault))?;
     let deck = read_rules(heap, rules).map_err(|fault| stop_at(File::Rules, fault))?;
-    let broken = judge_deck(heap, &text.nodes, &deck)
-        .map_err(|fault| stop_deck(&text, &deck, fault))?;
+    let broken = judge_deck(heap, &text.nodes, &deck).map_err(|fault| stop_deck(
+        &text, &deck, fault,
+    ))?;
     let out = broken_lines(heap, &deck, &broken)?;
     Ok(out)
 }

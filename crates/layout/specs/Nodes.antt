@@ -1,5 +1,5 @@
 -- What a node says. Assumes nothing: these are definitions.
-use Rattle.std.specs.Prelude.{◌≡◌, ℕ, ◌+◌, ◌*◌, ◌<◌, ◌≤◌, Bool, true, false, List, Some, None, Option, slice_index}
+use Rattle.std.specs.Prelude.{◌≡◌, ℕ, ◌+◌, ◌*◌, ◌<◌, ◌≤◌, Bool, true, false, List, [], ◌∷◌, Some, None, Option, slice_index}
 use Rattle.layout.specs.Limits.{max_number}
 use Rattle.layout.specs.Layout.{Layout, nothing, box, both, row, column}
 use Rattle.layout.specs.Numbers.{node_of, earlier_1}
@@ -43,6 +43,17 @@ Spelled k a b c e f (Changed (Turn s) i) = (k ≡ 4) × (a ≡ s) × (b ≡ i)
 Spelled k a b c e f (Changed (Mirror s) i) = (k ≡ 5) × (a ≡ s) × (b ≡ i)
 Spelled k a b c e f (Row m d i) = (k ≡ 6) × (a ≡ m) × (b ≡ d) × (c ≡ i)
 Spelled k a b c e f (Column m d i) = (k ≡ 7) × (a ≡ m) × (b ≡ d) × (c ≡ i)
+
+-- these numbers, zeros where it says nothing
+abbrev pub numbers_of : Node → List ℕ
+numbers_of Nothing = 0 ∷ 0 ∷ 0 ∷ 0 ∷ 0 ∷ 0 ∷ []
+numbers_of (One q) = 1 ∷ q.layer ∷ q.x ∷ q.y ∷ q.across ∷ q.down ∷ []
+numbers_of (Both i j) = 2 ∷ i ∷ j ∷ 0 ∷ 0 ∷ 0 ∷ []
+numbers_of (Changed (Move r u) i) = 3 ∷ r ∷ u ∷ i ∷ 0 ∷ 0 ∷ []
+numbers_of (Changed (Turn s) i) = 4 ∷ s ∷ i ∷ 0 ∷ 0 ∷ 0 ∷ []
+numbers_of (Changed (Mirror s) i) = 5 ∷ s ∷ i ∷ 0 ∷ 0 ∷ 0 ∷ []
+numbers_of (Row m d i) = 6 ∷ m ∷ d ∷ i ∷ 0 ∷ 0 ∷ []
+numbers_of (Column m d i) = 7 ∷ m ∷ d ∷ i ∷ 0 ∷ 0 ∷ []
 
 pub record Read (xs : List ℕ) (n : ℕ) (d : Node) : Type 0 where
   pub spelled : Spelled (slice_index xs (6 * n)) (slice_index xs (6 * n + 1)) (slice_index xs (6 * n + 2)) (slice_index xs (6 * n + 3)) (slice_index xs (6 * n + 4)) (slice_index xs (6 * n + 5)) d

@@ -1,5 +1,5 @@
 -- The number by which each refusal is known, and its place. Assumes nothing: these are definitions.
-use Rattle.std.specs.Prelude.{ℕ, List, ◌++◌, codes}
+use Rattle.std.specs.Prelude.{◌≡◌, ℕ, List, ◌++◌, Ok, Err, codes, Result}
 use Rattle.std.specs.Fmt.{decimal}
 use Rattle.layout.specs.declared.refusal.Refusal.{Refusal}
 use Rattle.layout.specs.declared.refusal.Refusal.TheVariants.{Nodes, Number, Node, Boxes, Regions, Region, Technology, Spots, Room, Circuit, Text}
@@ -39,3 +39,9 @@ refusal_text r = codes "refusal " ++ (decimal (number_of r) ++ (codes " at " ++ 
 abbrev pub fault_text : Fault → List ℕ
 fault_text (Refused r) = refusal_text r
 fault_text Memory = codes "no memory"
+
+-- an answer follows a model, which gives a value or the line at which a text can't be read; nothing is said where memory ran out
+abbrev pub Follows : {A U : Type 0} → Result A ℕ → A → Result U Fault → Type 0
+Follows m a (Ok u) = m ≡ Ok a
+Follows m a (Err (Refused e)) = (e ≡ Text (place_of e)) × (m ≡ Err (place_of e))
+Follows m a (Err Memory) = Unit {0}

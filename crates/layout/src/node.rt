@@ -1,7 +1,7 @@
-// Nodes of six numbers, read as what they say.
+// Nodes of six numbers, read as what they say, and spelled.
 ghost use Rattle.std.specs.Prelude.{◌≡◌, ◌+◌, ◌*◌, ◌≤◌, true, length};
 ghost use Rattle.layout.specs.Limits.{max_number};
-ghost use Rattle.layout.specs.Nodes.{Reads};
+ghost use Rattle.layout.specs.Nodes.{Reads, numbers_of};
 ghost use Rattle.layout.specs.Numbers.{all_at_most};
 
 use super::change::Change;
@@ -16,6 +16,29 @@ pub enum Node {
     Changed { by: Change, of: usize },
     Row { many: u64, far: u64, of: usize },
     Column { many: u64, far: u64, of: usize },
+}
+
+impl Node {
+    /// The numbers that spell it, as the layout entries take them.
+    pub fn numbers(self) -> [u64; 6]
+        ensures { result ≡ numbers_of self }
+    {
+        match self {
+            Node::Nothing => [0, 0, 0, 0, 0, 0],
+            Node::One(q) => [1, q.layer, q.x, q.y, q.across, q.down],
+            Node::Both(a, b) => [2, a as u64, b as u64, 0, 0, 0],
+            Node::Changed { by, of } => {
+                let of = of as u64;
+                match by {
+                    Change::Move { right, below } => [3, right, below, of, 0, 0],
+                    Change::Turn { side } => [4, side, of, 0, 0, 0],
+                    Change::Mirror { side } => [5, side, of, 0, 0, 0],
+                }
+            }
+            Node::Row { many, far, of } => [6, many, far, of as u64, 0, 0],
+            Node::Column { many, far, of } => [7, many, far, of as u64, 0, 0],
+        }
+    }
 }
 
 /// The node of this number, unless it is of no kind, or names itself or a later one.

@@ -3,6 +3,10 @@ use Rattle.std.proofs.Common.{◌≡◌, ℕ, suc, cond, eqb, List, [], ◌∷�
 use Rattle.std.proofs.lemmas.Bool.{cases_Bool}
 use Rattle.std.specs.List.{AllByRecursion}
 use Rattle.words.specs.Steps.{by_some}
+use Rattle.layout.specs.declared.change.Change.{Change}
+use Rattle.layout.specs.declared.change.Change.TheVariants.{Move, Turn, Mirror}
+use Rattle.layout.specs.declared.node.Node.{Node}
+use Rattle.layout.specs.declared.node.Node.TheVariants.{One, Changed, Row, Column}
 use Rattle.text.specs.Sheets.{added, joined}
 use Rattle.text.specs.Plans.{Drawing, blank, placed, sheeted, waiting, drawn, moved_on, turned, begun, said, all_said, last, finished}
 use Rattle.text.specs.declared.plan.Pin.{Pin}
@@ -31,24 +35,24 @@ by-pins (Some a) d f ps e g = g a
 placed_pins : (d : Drawing) (n : ℕ) → (placed d n).pins ≡ d.pins
 placed_pins d n = by-pins d.within _ _ d.pins refl (λ k. refl)
 
-drawn_pins : (d : Drawing) (ks : List ℕ) (line : ℕ) → (drawn d ks line).pins ≡ d.pins
-drawn_pins d ks line = placed_pins (sheeted d (added d.sheet ks (Some line))) (length d.sheet.lines)
+drawn_pins : (d : Drawing) (b : Node) (line : ℕ) → (drawn d b line).pins ≡ d.pins
+drawn_pins d b line = placed_pins (sheeted d (added d.sheet b (Some line))) (length d.sheet.lines)
 
 moved-pins : (d : Drawing) → (moved_on d).pins ≡ d.pins
-moved-pins d = by-pins d.put d _ d.pins refl (λ p. drawn_pins (waiting d None) (3 ∷ p.x ∷ p.y ∷ p.node ∷ 0 ∷ 0 ∷ []) p.line)
+moved-pins d = by-pins d.put d _ d.pins refl (λ p. drawn_pins (waiting d None) (Changed (Move p.x p.y) p.node) p.line)
 
-turned-pins : (d : Drawing) (kind side : ℕ) → (turned d kind side).pins ≡ d.pins
-turned-pins d kind side = by-pins d.put d _ d.pins refl (λ p. refl)
+turned-pins : (d : Drawing) (by : Change) → (turned d by).pins ≡ d.pins
+turned-pins d by = by-pins d.put d _ d.pins refl (λ p. refl)
 
 begun-pins : (d : Drawing) (s : Statement) (n : ℕ) → Unpinned s → (begun d s n).pins ≡ d.pins
-begun-pins d (statement.Box l x y a h) n u = drawn_pins d (1 ∷ l ∷ x ∷ y ∷ a ∷ h ∷ []) n
+begun-pins d (statement.Box l x y a h) n u = drawn_pins d (One (record { layer = l; x = x; y = y; across = a; down = h })) n
 begun-pins d statement.Cell n u = refl
 begun-pins d statement.Close n u = refl
 begun-pins d (statement.Put c x y) n u = refl
 begun-pins d (statement.Turned s) n u = refl
 begun-pins d (statement.Mirrored s) n u = refl
-begun-pins d (statement.Row m f c) n u = drawn_pins d (6 ∷ m ∷ f ∷ get_or d.cells c 0 ∷ 0 ∷ 0 ∷ []) n
-begun-pins d (statement.Column m f c) n u = drawn_pins d (7 ∷ m ∷ f ∷ get_or d.cells c 0 ∷ 0 ∷ 0 ∷ []) n
+begun-pins d (statement.Row m f c) n u = drawn_pins d (Row m f (get_or d.cells c 0)) n
+begun-pins d (statement.Column m f c) n u = drawn_pins d (Column m f (get_or d.cells c 0)) n
 begun-pins d (statement.Pin l x y) n u = absurd u
 
 next-pins : (d : Drawing) (s : Statement) (n : ℕ) → Unpinned s → (begun (moved_on d) s n).pins ≡ d.pins
@@ -59,8 +63,8 @@ said-pins d (statement.Box l x y a h) n u = next-pins d (statement.Box l x y a h
 said-pins d statement.Cell n u = next-pins d statement.Cell n u
 said-pins d statement.Close n u = next-pins d statement.Close n u
 said-pins d (statement.Put c x y) n u = next-pins d (statement.Put c x y) n u
-said-pins d (statement.Turned s) n u = turned-pins d 4 s
-said-pins d (statement.Mirrored s) n u = turned-pins d 5 s
+said-pins d (statement.Turned s) n u = turned-pins d (Turn s)
+said-pins d (statement.Mirrored s) n u = turned-pins d (Mirror s)
 said-pins d (statement.Row m f c) n u = next-pins d (statement.Row m f c) n u
 said-pins d (statement.Column m f c) n u = next-pins d (statement.Column m f c) n u
 said-pins d (statement.Pin l x y) n u = absurd u
@@ -72,7 +76,7 @@ all_pins (s ∷ ss) d q = all_pins ss (said d s.statement s.line) q.1 ∙ said-p
 
 last-pins : (d : Drawing) (n : ℕ) → (last d n).pins ≡ d.pins
 last-pins d n =
-    let e = sheeted d (added d.sheet (3 ∷ 0 ∷ 0 ∷ n ∷ 0 ∷ 0 ∷ []) None) in
+    let e = sheeted d (added d.sheet (Changed (Move 0 0) n) None) in
     elim (cases_Bool (eqb (suc n) (length d.sheet.lines))) [ inl t ↦ ap (λ b. (cond b d e).pins) t | inr t ↦ ap (λ b. (cond b d e).pins) t ]
 
 pub no_pins : (ss : List Said) → AllByRecursion Quiet ss → (finished (all_said blank ss)).pins ≡ []

@@ -4,7 +4,8 @@ use Rattle.layout.specs.declared.refusal.Fault.{Fault}
 use Rattle.layout.specs.declared.refusal.Fault.TheVariants.{Refused, Memory}
 use Rattle.words.proofs.Listings.{Listing, list-stopped}
 use Rattle.rule_text.specs.Rules.{Rule}
-use Rattle.rule_text.specs.RuleTexts.{lined, Follows, RulesRead}
+use Rattle.rule_text.specs.RuleTexts.{lined, RulesRead}
+use Rattle.layout.specs.Refusals.{Follows}
 
 -- a line that can't be read stops the text
 pub stopped : (text : List ℕ) (left : List (List ℕ)) (n : ℕ) (rs : List Rule) → Listing lined [] text left n rs → (line : List ℕ) (rest : List (List ℕ)) → left ≡ line ∷ rest → (k : ℕ) → k ≡ n →

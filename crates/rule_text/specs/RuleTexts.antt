@@ -22,12 +22,6 @@ lined n rules line =
 abbrev pub rules_text : List ℕ → Result (List Rule) ℕ
 rules_text text = line_by_line lined 0 [] (lines_of text)
 
--- an answer follows a model; nothing is said where memory ran out
-abbrev pub Follows : {U : Type 0} → Result (List Rule) ℕ → List Rule → Result U Fault → Type 0
-Follows m s (Ok u) = m ≡ Ok s
-Follows m s (Err (Refused e)) = (e ≡ Text (place_of e)) × (m ≡ Err (place_of e))
-Follows m s (Err Memory) = Unit {0}
-
 abbrev pub RulesRead : List ℕ → Result (Vec RuleText Global) Fault → Type 0
 RulesRead text (Ok v) = rules_text text ≡ Ok (map rule_of (vec_items v))
 RulesRead text (Err (Refused e)) = (e ≡ Text (place_of e)) × (rules_text text ≡ Err (place_of e))

@@ -1,7 +1,8 @@
 // Rule texts: one rule to a line.
 ghost use Rattle.std.specs.Prelude.{map};
+ghost use Rattle.layout.specs.Refusals.{Follows};
 ghost use Rattle.rule_text.specs.Rules.{rule_of};
-ghost use Rattle.rule_text.specs.RuleTexts.{lined, Follows, RulesRead};
+ghost use Rattle.rule_text.specs.RuleTexts.{lined, RulesRead};
 
 use super::rule::{RuleText, read_rule};
 use layout::refusal::Fault;

@@ -5,31 +5,31 @@ use Rattle.layout.specs.Layout.{Layout, nothing, box, both, moved, turned, mirro
 use Rattle.layout.specs.Numbers.{node_of, node_at}
 
 -- the numbers of a node
-pub record Node (xs : List ℕ) (n : ℕ) (ks : List ℕ) : Type 0 where
+pub record HasNumbers (xs : List ℕ) (n : ℕ) (ks : List ℕ) : Type 0 where
   pub within : 6 * n + 6 ≤ length xs
   pub is : (i : ℕ) → i < 6 → get_or xs (6 * n + i) 0 ≡ get_or ks i 0
 
-pub node-more : (xs ys : List ℕ) (n : ℕ) (ks : List ℕ) → Node xs n ks → Node (xs ++ ys) n ks
+pub node-more : (xs ys : List ℕ) (n : ℕ) (ks : List ℕ) → HasNumbers xs n ks → HasNumbers (xs ++ ys) n ks
 node-more xs ys n ks c = record {
   within = omega (arith, length-append xs ys, c.within);
   is = λ i h. get_or_append_left xs ys 0 (6 * n + i) (omega (arith, c.within)) ∙ c.is i h;
 }
 
-pub node-new : (xs : List ℕ) (n : ℕ) (ks : List ℕ) → length xs ≡ 6 * n → length ks ≡ 6 → Node (xs ++ ks) n ks
+pub node-new : (xs : List ℕ) (n : ℕ) (ks : List ℕ) → length xs ≡ 6 * n → length ks ≡ 6 → HasNumbers (xs ++ ks) n ks
 node-new xs n ks h l = record {
   within = omega (arith, length-append xs ks);
   is = λ i q. get_or-append_right xs ks (6 * n) (6 * n + i) 0 h (omega arith) ∙ ap (λ j. get_or ks j 0) (omega arith);
 }
 
 pub data Denotes (xs : List ℕ) : ℕ → Layout → Type 0 where
-  a_nothing : {n : ℕ} → Node xs n (0 ∷ 0 ∷ 0 ∷ 0 ∷ 0 ∷ 0 ∷ []) → Denotes xs n nothing
-  a_box : {n l x y a h : ℕ} → Node xs n (1 ∷ l ∷ x ∷ y ∷ a ∷ h ∷ []) → Denotes xs n (box l x y a h)
-  a_both : {n a b : ℕ} {p q : Layout} → Node xs n (2 ∷ a ∷ b ∷ 0 ∷ 0 ∷ 0 ∷ []) → a < n → b < n → Denotes xs a p → Denotes xs b q → Denotes xs n (both p q)
-  a_moved : {n r b a : ℕ} {p : Layout} → Node xs n (3 ∷ r ∷ b ∷ a ∷ 0 ∷ 0 ∷ []) → a < n → Denotes xs a p → Denotes xs n (moved r b p)
-  a_turned : {n s a : ℕ} {p : Layout} → Node xs n (4 ∷ s ∷ a ∷ 0 ∷ 0 ∷ 0 ∷ []) → a < n → Denotes xs a p → Denotes xs n (turned s p)
-  a_mirrored : {n s a : ℕ} {p : Layout} → Node xs n (5 ∷ s ∷ a ∷ 0 ∷ 0 ∷ 0 ∷ []) → a < n → Denotes xs a p → Denotes xs n (mirrored s p)
-  a_row : {n m f a : ℕ} {p : Layout} → Node xs n (6 ∷ m ∷ f ∷ a ∷ 0 ∷ 0 ∷ []) → a < n → Denotes xs a p → Denotes xs n (row m f p)
-  a_column : {n m f a : ℕ} {p : Layout} → Node xs n (7 ∷ m ∷ f ∷ a ∷ 0 ∷ 0 ∷ []) → a < n → Denotes xs a p → Denotes xs n (column m f p)
+  a_nothing : {n : ℕ} → HasNumbers xs n (0 ∷ 0 ∷ 0 ∷ 0 ∷ 0 ∷ 0 ∷ []) → Denotes xs n nothing
+  a_box : {n l x y a h : ℕ} → HasNumbers xs n (1 ∷ l ∷ x ∷ y ∷ a ∷ h ∷ []) → Denotes xs n (box l x y a h)
+  a_both : {n a b : ℕ} {p q : Layout} → HasNumbers xs n (2 ∷ a ∷ b ∷ 0 ∷ 0 ∷ 0 ∷ []) → a < n → b < n → Denotes xs a p → Denotes xs b q → Denotes xs n (both p q)
+  a_moved : {n r b a : ℕ} {p : Layout} → HasNumbers xs n (3 ∷ r ∷ b ∷ a ∷ 0 ∷ 0 ∷ []) → a < n → Denotes xs a p → Denotes xs n (moved r b p)
+  a_turned : {n s a : ℕ} {p : Layout} → HasNumbers xs n (4 ∷ s ∷ a ∷ 0 ∷ 0 ∷ 0 ∷ []) → a < n → Denotes xs a p → Denotes xs n (turned s p)
+  a_mirrored : {n s a : ℕ} {p : Layout} → HasNumbers xs n (5 ∷ s ∷ a ∷ 0 ∷ 0 ∷ 0 ∷ []) → a < n → Denotes xs a p → Denotes xs n (mirrored s p)
+  a_row : {n m f a : ℕ} {p : Layout} → HasNumbers xs n (6 ∷ m ∷ f ∷ a ∷ 0 ∷ 0 ∷ []) → a < n → Denotes xs a p → Denotes xs n (row m f p)
+  a_column : {n m f a : ℕ} {p : Layout} → HasNumbers xs n (7 ∷ m ∷ f ∷ a ∷ 0 ∷ 0 ∷ []) → a < n → Denotes xs a p → Denotes xs n (column m f p)
 
 pub more : (xs ys : List ℕ) {n : ℕ} {p : Layout} → Denotes xs n p → Denotes (xs ++ ys) n p
 more xs ys (a_nothing c) = a_nothing (node-more xs ys _ _ c)
@@ -51,7 +51,7 @@ inside xs (a_mirrored c h d) = c.within
 inside xs (a_row c h d) = c.within
 inside xs (a_column c h d) = c.within
 
-node-is : (xs : List ℕ) (m n k a b c e f : ℕ) → Node xs n (k ∷ a ∷ b ∷ c ∷ e ∷ f ∷ []) → node_at xs (suc m) n ≡ node_of (node_at xs m) k a b c e f
+node-is : (xs : List ℕ) (m n k a b c e f : ℕ) → HasNumbers xs n (k ∷ a ∷ b ∷ c ∷ e ∷ f ∷ []) → node_at xs (suc m) n ≡ node_of (node_at xs m) k a b c e f
 unfolding node_at
 node-is xs m n k a b c e f d =
     let g = node_at xs m in

@@ -6,7 +6,8 @@ use Rattle.layout.specs.declared.refusal.Fault.TheVariants.{Refused, Memory}
 use Rattle.words.specs.Words.{Token, token_of}
 use Rattle.words.specs.declared.word.Word.{Word}
 use Rattle.words.specs.Steps.{and_then}
-use Rattle.text.specs.Readings.{State, start, accept, read, Follows, Read}
+use Rattle.text.specs.Readings.{State, start, accept, read, Read}
+use Rattle.layout.specs.Refusals.{Follows}
 
 abbrev after : Result State ℕ → List Token → Result State ℕ
 after r ts = and_then r (λ z. read z ts)

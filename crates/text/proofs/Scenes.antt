@@ -4,6 +4,11 @@ use Rattle.std.proofs.lemmas.List.{length-append, length_push, append_assoc, app
 use Rattle.std.proofs.lemmas.Bool.{cases_eq, eq-eqb, ne_eqb, le-leb}
 use Rattle.layout.specs.Layout.{Layout, nothing, box, both, moved, turned, mirrored, row, column, shifted, drawn_with}
 use Rattle.layout.specs.Layout as layouts
+use Rattle.layout.specs.Nodes.{numbers_of}
+use Rattle.layout.specs.declared.change.Change.{Change}
+use Rattle.layout.specs.declared.change.Change.TheVariants.{Move, Turn, Mirror}
+use Rattle.layout.specs.declared.node.Node.{Node}
+use Rattle.layout.specs.declared.node.Node.TheVariants.{Nothing, One, Both, Changed, Row, Column}
 use Rattle.layout.specs.Numbers.{layout_in, node_at, sixes}
 use Rattle.layout.proofs.Checks.{sixes-near}
 use Rattle.words.specs.Steps.{by_some}
@@ -18,7 +23,7 @@ use Rattle.text.specs.declared.statement.Statement.{Statement}
 use Rattle.text.specs.declared.statement.Statement.TheVariants as statement
 use Rattle.text.specs.declared.statement.Said.{Said}
 use Rattle.text.specs.declared.plan.Put.{Put}
-use Rattle.text.proofs.Denotes.{Node, Denotes, a_nothing, a_box, a_both, a_moved, a_turned, a_mirrored, a_row, a_column, node-new, more, inside, is_at}
+use Rattle.text.proofs.Denotes.{HasNumbers, Denotes, a_nothing, a_box, a_both, a_moved, a_turned, a_mirrored, a_row, a_column, node-new, more, inside, is_at}
 
 -- nodes, one by one
 abbrev pub Each : List ℕ → List ℕ → List Layout → Type 0
@@ -68,8 +73,22 @@ waits_more xs ys (Some p) (Some q) w = (more xs ys w.0, w.1, w.2)
 abbrev pub Whole : Nodes → Type 0
 Whole s = length s.nodes ≡ 6 * length s.lines
 
-pub whole-added : (s : Nodes) (ks : List ℕ) (l : Option ℕ) → Whole s → length ks ≡ 6 → Whole (added s ks l)
-whole-added s ks l w h = omega (arith, length-append s.nodes ks, length_push s.lines l)
+-- a node has six numbers
+pub six : (d : Node) → length (numbers_of d) ≡ 6
+six Nothing = refl
+six (One q) = refl
+six (Both a b) = refl
+six (Changed (Move r b) a) = refl
+six (Changed (Turn s) a) = refl
+six (Changed (Mirror s) a) = refl
+six (Row m f a) = refl
+six (Column m f a) = refl
+
+pub whole-added : (s : Nodes) (d : Node) (l : Option ℕ) → Whole s → Whole (added s d l)
+whole-added s d l w = omega (arith, six d, length-append s.nodes (numbers_of d), length_push s.lines l)
+
+new : (s : Nodes) (d : Node) → Whole s → HasNumbers (s.nodes ++ numbers_of d) (length s.lines) (numbers_of d)
+new s d w = node-new s.nodes (length s.lines) (numbers_of d) w (six d)
 
 pub below : (s : Nodes) {n : ℕ} {p : Layout} → Whole s → Denotes s.nodes n p → n < length s.lines
 below s w d = omega (arith, inside s.nodes d)
@@ -87,16 +106,16 @@ joins-to s n [] l p [] w d e = record { more_nodes = []; after = sym (append-nil
 joins-to s n [] l p (q ∷ qs) w d e = absurd e
 joins-to s n (m ∷ ms) l p [] w d e = absurd e
 joins-to s n (m ∷ ms) l p (q ∷ qs) w d e =
-    let ks = 2 ∷ n ∷ m ∷ 0 ∷ 0 ∷ 0 ∷ [] in
-    let t = added s ks l in
-    let here : Denotes t.nodes (length s.lines) (both p q) = a_both (node-new s.nodes (length s.lines) ks w refl) (below s w d) (below s w e.0) (more s.nodes ks d) (more s.nodes ks e.0) in
-    let j = joins-to t (length s.lines) ms l (both p q) qs (whole-added s ks l w refl) here (each_more s.nodes ks ms qs e.1) in
+    let b = Both n m in
+    let ks = numbers_of b in
+    let t = added s b l in
+    let here : Denotes t.nodes (length s.lines) (both p q) = a_both (new s b w) (below s w d) (below s w e.0) (more s.nodes ks d) (more s.nodes ks e.0) in
+    let j = joins-to t (length s.lines) ms l (both p q) qs (whole-added s b l w) here (each_more s.nodes ks ms qs e.1) in
     record { more_nodes = ks ++ j.more_nodes; after = j.after ∙ append_assoc s.nodes ks j.more_nodes; whole = j.whole; is = j.is }
 
 pub joins : (s : Nodes) (ns : List ℕ) (l : Option ℕ) (ps : List Layout) → Whole s → Each s.nodes ns ps → Joins s (joined s ns l) (together ps)
 joins s [] l [] w e =
-    let ks = 0 ∷ 0 ∷ 0 ∷ 0 ∷ 0 ∷ 0 ∷ [] in
-    record { more_nodes = ks; after = refl; whole = whole-added s ks l w refl; is = a_nothing (node-new s.nodes (length s.lines) ks w refl) }
+    record { more_nodes = numbers_of Nothing; after = refl; whole = whole-added s Nothing l w; is = a_nothing (new s Nothing w) }
 joins s [] l (q ∷ qs) w e = absurd e
 joins s (m ∷ ms) l [] w e = absurd e
 joins s (m ∷ ms) l (q ∷ qs) w e = joins-to s m ms l q qs w e.0 e.1
@@ -150,13 +169,14 @@ place-by d s n p h den (Some k) e =
 place-shows : (d : Drawing) (s : Scene) (n : ℕ) (p : Layout) → Shows d s → Denotes d.sheet.nodes n p → Shows (placed d n) (part_more s p)
 place-shows d s n p h den = place-by d s n p h den d.within refl
 
-draw_shows : (d : Drawing) (s : Scene) (ks : List ℕ) (line : ℕ) (p : Layout) → Shows d s → length ks ≡ 6 → Denotes (d.sheet.nodes ++ ks) (length d.sheet.lines) p → Shows (drawn d ks line) (part_more s p)
-draw_shows d s ks line p h l den =
-    place-shows (sheeted d (added d.sheet ks (Some line))) s (length d.sheet.lines) p (shows-sheet d s (added d.sheet ks (Some line)) ks h refl (whole-added d.sheet ks (Some line) h.whole l)) den
+draw_shows : (d : Drawing) (s : Scene) (b : Node) (line : ℕ) (p : Layout) → Shows d s → Denotes (d.sheet.nodes ++ numbers_of b) (length d.sheet.lines) p → Shows (drawn d b line) (part_more s p)
+draw_shows d s b line p h den =
+    let t = added d.sheet b (Some line) in
+    place-shows (sheeted d t) s (length d.sheet.lines) p (shows-sheet d s t (numbers_of b) h refl (whole-added d.sheet b (Some line) h.whole)) den
 
 -- a put moved after its turns
 abbrev moved_by : Drawing → Put → Drawing
-moved_by d p = drawn (waiting d None) (3 ∷ p.x ∷ p.y ∷ p.node ∷ 0 ∷ 0 ∷ []) p.line
+moved_by d p = drawn (waiting d None) (Changed (Move p.x p.y) p.node) p.line
 
 abbrev moved-part : Scene → Placed → Scene
 moved-part s q = part_more (holding s None) (moved q.x q.y q.what)
@@ -167,40 +187,42 @@ move_by d s h None None w e f =
 move_by d s h None (Some q) w e f = absurd w
 move_by d s h (Some p) None w e f = absurd w
 move_by d s h (Some p) (Some q) w e f =
-    let ks = 3 ∷ p.x ∷ p.y ∷ p.node ∷ 0 ∷ 0 ∷ [] in
+    let b = Changed (Move p.x p.y) p.node in
+    let ks = numbers_of b in
     let h0 : Shows (waiting d None) (holding s None) = record { whole = h.whole; cells = h.cells; outer = h.outer; inner = h.inner; within = h.within; put = tt } in
-    let den : Denotes (d.sheet.nodes ++ ks) (length d.sheet.lines) (moved p.x p.y q.what) = a_moved (node-new d.sheet.nodes (length d.sheet.lines) ks h.whole refl) (below d.sheet h.whole w.0) (more d.sheet.nodes ks w.0) in
+    let den : Denotes (d.sheet.nodes ++ ks) (length d.sheet.lines) (moved p.x p.y q.what) = a_moved (new d.sheet b h.whole) (below d.sheet h.whole w.0) (more d.sheet.nodes ks w.0) in
     let den' = subst (λ (u : ℕ). Denotes (d.sheet.nodes ++ ks) (length d.sheet.lines) (moved q.x u q.what)) w.2 (subst (λ (u : ℕ). Denotes (d.sheet.nodes ++ ks) (length d.sheet.lines) (moved u p.y q.what)) w.1 den) in
     subst (λ (D : Drawing). Shows D (put_down s)) (sym (ap (λ u. by_some u d (moved_by d)) e))
     (subst (λ (S : Scene). Shows (moved_by d p) S) (sym (ap (λ u. by_some u s (moved-part s)) f))
-    (draw_shows (waiting d None) (holding s None) ks p.line (moved q.x q.y q.what) h0 refl den'))
+    (draw_shows (waiting d None) (holding s None) b p.line (moved q.x q.y q.what) h0 den'))
 
 move_shows : (d : Drawing) (s : Scene) → Shows d s → Shows (moved_on d) (put_down s)
 move_shows d s h = move_by d s h d.put s.put h.put refl refl
 
 -- a turn of the put that waits
-abbrev turned_by : Drawing → ℕ → ℕ → Put → Drawing
-turned_by d kind side p =
-    waiting (sheeted d (added d.sheet (kind ∷ side ∷ p.node ∷ 0 ∷ 0 ∷ 0 ∷ []) (Some p.line))) (Some (record { node = length d.sheet.lines; x = p.x; y = p.y; line = p.line }))
+abbrev turned_by : Drawing → Change → Put → Drawing
+turned_by d by p =
+    waiting (sheeted d (added d.sheet (Changed by p.node) (Some p.line))) (Some (record { node = length d.sheet.lines; x = p.x; y = p.y; line = p.line }))
 
 abbrev changed_part : Scene → (Layout → Layout) → Placed → Scene
 changed_part s f q = holding s (Some (record { what = f q.what; x = q.x; y = q.y }))
 
-module _ (kind side : ℕ) (f : Layout → Layout) (mk : (xs : List ℕ) (n a : ℕ) (p : Layout) → Node xs n (kind ∷ side ∷ a ∷ 0 ∷ 0 ∷ 0 ∷ []) → a < n → Denotes xs a p → Denotes xs n (f p)) where
-  turn_by : (d : Drawing) (s : Scene) → Shows d s → (p : Option Put) (q : Option Placed) → Waits d.sheet.nodes p q → d.put ≡ p → s.put ≡ q → Shows (plans.turned d kind side) (changed s f)
+module _ (by : Change) (f : Layout → Layout) (mk : (xs : List ℕ) (n a : ℕ) (p : Layout) → HasNumbers xs n (numbers_of (Changed by a)) → a < n → Denotes xs a p → Denotes xs n (f p)) where
+  turn_by : (d : Drawing) (s : Scene) → Shows d s → (p : Option Put) (q : Option Placed) → Waits d.sheet.nodes p q → d.put ≡ p → s.put ≡ q → Shows (plans.turned d by) (changed s f)
   turn_by d s h None None w e g =
-      subst (λ (D : Drawing). Shows D (changed s f)) (sym (ap (λ u. by_some u d (turned_by d kind side)) e)) (subst (λ (S : Scene). Shows d S) (sym (ap (λ u. by_some u s (changed_part s f)) g)) h)
+      subst (λ (D : Drawing). Shows D (changed s f)) (sym (ap (λ u. by_some u d (turned_by d by)) e)) (subst (λ (S : Scene). Shows d S) (sym (ap (λ u. by_some u s (changed_part s f)) g)) h)
   turn_by d s h None (Some q) w e g = absurd w
   turn_by d s h (Some p) None w e g = absurd w
   turn_by d s h (Some p) (Some q) w e g =
-      let ks = kind ∷ side ∷ p.node ∷ 0 ∷ 0 ∷ 0 ∷ [] in
-      let t = added d.sheet ks (Some p.line) in
-      let h1 = shows-sheet d s t ks h refl (whole-added d.sheet ks (Some p.line) h.whole refl) in
-      let den = mk (d.sheet.nodes ++ ks) (length d.sheet.lines) p.node q.what (node-new d.sheet.nodes (length d.sheet.lines) ks h.whole refl) (below d.sheet h.whole w.0) (more d.sheet.nodes ks w.0) in
-      let h2 : Shows (turned_by d kind side p) (changed_part s f q) = record { whole = h1.whole; cells = h1.cells; outer = h1.outer; inner = h1.inner; within = h1.within; put = (den, w.1, w.2) } in
-      subst (λ (D : Drawing). Shows D (changed s f)) (sym (ap (λ u. by_some u d (turned_by d kind side)) e)) (subst (λ (S : Scene). Shows (turned_by d kind side p) S) (sym (ap (λ u. by_some u s (changed_part s f)) g)) h2)
+      let b = Changed by p.node in
+      let ks = numbers_of b in
+      let t = added d.sheet b (Some p.line) in
+      let h1 = shows-sheet d s t ks h refl (whole-added d.sheet b (Some p.line) h.whole) in
+      let den = mk (d.sheet.nodes ++ ks) (length d.sheet.lines) p.node q.what (new d.sheet b h.whole) (below d.sheet h.whole w.0) (more d.sheet.nodes ks w.0) in
+      let h2 : Shows (turned_by d by p) (changed_part s f q) = record { whole = h1.whole; cells = h1.cells; outer = h1.outer; inner = h1.inner; within = h1.within; put = (den, w.1, w.2) } in
+      subst (λ (D : Drawing). Shows D (changed s f)) (sym (ap (λ u. by_some u d (turned_by d by)) e)) (subst (λ (S : Scene). Shows (turned_by d by p) S) (sym (ap (λ u. by_some u s (changed_part s f)) g)) h2)
 
-  turn-shows : (d : Drawing) (s : Scene) → Shows d s → Shows (plans.turned d kind side) (changed s f)
+  turn-shows : (d : Drawing) (s : Scene) → Shows d s → Shows (plans.turned d by) (changed s f)
   turn-shows d s h = turn_by d s h d.put s.put h.put refl refl
 
 -- a cell that ends
@@ -213,7 +235,7 @@ close-shows d s h =
 
 begin-shows : (d : Drawing) (s : Scene) (st : Statement) (n : ℕ) → Shows d s → NamesEnded (length d.cells) st → Shows (begun d st n) (begins s st)
 begin-shows d s (statement.Box l x y a k) n h w =
-    let ks = 1 ∷ l ∷ x ∷ y ∷ a ∷ k ∷ [] in draw_shows d s ks n (box l x y a k) h refl (a_box (node-new d.sheet.nodes (length d.sheet.lines) ks h.whole refl))
+    let b = One (record { layer = l; x = x; y = y; across = a; down = k }) in draw_shows d s b n (box l x y a k) h (a_box (new d.sheet b h.whole))
 begin-shows d s statement.Cell n h w = record { whole = h.whole; cells = h.cells; outer = h.outer; inner = tt; within = refl; put = h.put }
 begin-shows d s statement.Close n h w = close-shows d s h
 begin-shows d s (statement.Put c x y) n h w = record { whole = h.whole; cells = h.cells; outer = h.outer; inner = h.inner; within = h.within; put = (each_at d.sheet.nodes d.cells s.cells c h.cells w, refl, refl) }
@@ -221,12 +243,12 @@ begin-shows d s (statement.Turned k) n h w = h
 begin-shows d s (statement.Mirrored k) n h w = h
 begin-shows d s (statement.Row m f c) n h w =
     let den = each_at d.sheet.nodes d.cells s.cells c h.cells w in
-    let ks = 6 ∷ m ∷ f ∷ get_or d.cells c 0 ∷ 0 ∷ 0 ∷ [] in
-    draw_shows d s ks n (row m f (get_or s.cells c nothing)) h refl (a_row (node-new d.sheet.nodes (length d.sheet.lines) ks h.whole refl) (below d.sheet h.whole den) (more d.sheet.nodes ks den))
+    let b = Row m f (get_or d.cells c 0) in
+    draw_shows d s b n (row m f (get_or s.cells c nothing)) h (a_row (new d.sheet b h.whole) (below d.sheet h.whole den) (more d.sheet.nodes (numbers_of b) den))
 begin-shows d s (statement.Column m f c) n h w =
     let den = each_at d.sheet.nodes d.cells s.cells c h.cells w in
-    let ks = 7 ∷ m ∷ f ∷ get_or d.cells c 0 ∷ 0 ∷ 0 ∷ [] in
-    draw_shows d s ks n (column m f (get_or s.cells c nothing)) h refl (a_column (node-new d.sheet.nodes (length d.sheet.lines) ks h.whole refl) (below d.sheet h.whole den) (more d.sheet.nodes ks den))
+    let b = Column m f (get_or d.cells c 0) in
+    draw_shows d s b n (column m f (get_or s.cells c nothing)) h (a_column (new d.sheet b h.whole) (below d.sheet h.whole den) (more d.sheet.nodes (numbers_of b) den))
 begin-shows d s (statement.Pin l x y) n h w = record { whole = h.whole; cells = h.cells; outer = h.outer; inner = h.inner; within = h.within; put = h.put }
 
 -- how many cells have ended
@@ -234,26 +256,26 @@ placed_cells : (d : Drawing) (n : ℕ) (w : Option ℕ) → d.within ≡ w → (
 placed_cells d n None e = ap (λ u. (by_some u (outer-more d n) (λ k. inner-more d n)).cells) e
 placed_cells d n (Some k) e = ap (λ u. (by_some u (outer-more d n) (λ k. inner-more d n)).cells) e
 
-drawn_cells : (d : Drawing) (ks : List ℕ) (line : ℕ) → (drawn d ks line).cells ≡ d.cells
-drawn_cells d ks line = placed_cells (sheeted d (added d.sheet ks (Some line))) (length d.sheet.lines) d.within refl
+drawn_cells : (d : Drawing) (b : Node) (line : ℕ) → (drawn d b line).cells ≡ d.cells
+drawn_cells d b line = placed_cells (sheeted d (added d.sheet b (Some line))) (length d.sheet.lines) d.within refl
 
 moved-cells : (d : Drawing) (p : Option Put) → d.put ≡ p → (moved_on d).cells ≡ d.cells
 moved-cells d None e = ap (λ u. (by_some u d (moved_by d)).cells) e
-moved-cells d (Some p) e = ap (λ u. (by_some u d (moved_by d)).cells) e ∙ drawn_cells (waiting d None) (3 ∷ p.x ∷ p.y ∷ p.node ∷ 0 ∷ 0 ∷ []) p.line
+moved-cells d (Some p) e = ap (λ u. (by_some u d (moved_by d)).cells) e ∙ drawn_cells (waiting d None) (Changed (Move p.x p.y) p.node) p.line
 
-turned-cells : (d : Drawing) (kind side : ℕ) (p : Option Put) → d.put ≡ p → (plans.turned d kind side).cells ≡ d.cells
-turned-cells d kind side None e = ap (λ u. (by_some u d (turned_by d kind side)).cells) e
-turned-cells d kind side (Some p) e = ap (λ u. (by_some u d (turned_by d kind side)).cells) e
+turned-cells : (d : Drawing) (by : Change) (p : Option Put) → d.put ≡ p → (plans.turned d by).cells ≡ d.cells
+turned-cells d by None e = ap (λ u. (by_some u d (turned_by d by)).cells) e
+turned-cells d by (Some p) e = ap (λ u. (by_some u d (turned_by d by)).cells) e
 
 begun-cells : (d : Drawing) (st : Statement) (n : ℕ) → length (begun d st n).cells ≡ length d.cells + ends st
-begun-cells d (statement.Box l x y a k) n = omega (arith, ap length (drawn_cells d (1 ∷ l ∷ x ∷ y ∷ a ∷ k ∷ []) n))
+begun-cells d (statement.Box l x y a k) n = omega (arith, ap length (drawn_cells d (One (record { layer = l; x = x; y = y; across = a; down = k })) n))
 begun-cells d statement.Cell n = omega arith
 begun-cells d statement.Close n = length_push d.cells (joined d.sheet d.inner d.within).node
 begun-cells d (statement.Put c x y) n = omega arith
 begun-cells d (statement.Turned k) n = omega arith
 begun-cells d (statement.Mirrored k) n = omega arith
-begun-cells d (statement.Row m f c) n = omega (arith, ap length (drawn_cells d (6 ∷ m ∷ f ∷ get_or d.cells c 0 ∷ 0 ∷ 0 ∷ []) n))
-begun-cells d (statement.Column m f c) n = omega (arith, ap length (drawn_cells d (7 ∷ m ∷ f ∷ get_or d.cells c 0 ∷ 0 ∷ 0 ∷ []) n))
+begun-cells d (statement.Row m f c) n = omega (arith, ap length (drawn_cells d (Row m f (get_or d.cells c 0)) n))
+begun-cells d (statement.Column m f c) n = omega (arith, ap length (drawn_cells d (Column m f (get_or d.cells c 0)) n))
 begun-cells d (statement.Pin l x y) n = omega arith
 
 -- one statement, and all
@@ -270,8 +292,8 @@ module _ (d : Drawing) (s : Scene) (h : Shows d s) (k : ℕ) (has : length d.cel
   say-shows statement.Cell n w = next statement.Cell n w
   say-shows statement.Close n w = next statement.Close n w
   say-shows (statement.Put c x y) n w = next (statement.Put c x y) n w
-  say-shows (statement.Turned z) n w = (turn-shows 4 z (turned z) (λ xs m a p c i e. a_turned c i e) d s h, omega (arith, ap length (turned-cells d 4 z d.put refl)))
-  say-shows (statement.Mirrored z) n w = (turn-shows 5 z (mirrored z) (λ xs m a p c i e. a_mirrored c i e) d s h, omega (arith, ap length (turned-cells d 5 z d.put refl)))
+  say-shows (statement.Turned z) n w = (turn-shows (Turn z) (turned z) (λ xs m a p c i e. a_turned c i e) d s h, omega (arith, ap length (turned-cells d (Turn z) d.put refl)))
+  say-shows (statement.Mirrored z) n w = (turn-shows (Mirror z) (mirrored z) (λ xs m a p c i e. a_mirrored c i e) d s h, omega (arith, ap length (turned-cells d (Mirror z) d.put refl)))
   say-shows (statement.Row m f c) n w = next (statement.Row m f c) n w
   say-shows (statement.Column m f c) n w = next (statement.Column m f c) n w
   say-shows (statement.Pin l x y) n w = next (statement.Pin l x y) n w
@@ -306,16 +328,17 @@ draws ss w l x y =
     let e = moved_on d in
     let j = joins e.sheet e.outer None (put_down s).outer h.whole h.outer in
     let t = joined e.sheet e.outer None in
-    let ks = 3 ∷ 0 ∷ 0 ∷ t.node ∷ 0 ∷ 0 ∷ [] in
+    let b = Changed (Move 0 0) t.node in
+    let ks = numbers_of b in
     let D = sheeted e t.sheet in
-    let D' = sheeted D (added t.sheet ks None) in
+    let D' = sheeted D (added t.sheet b None) in
     let p = together (put_down s).outer in
     elim (cases_eq (suc t.node) (length t.sheet.lines)) [
       | inl q ↦ ap (λ b. layout_in (cond b D D').sheet.nodes l x y) (eq-eqb (suc t.node) (length t.sheet.lines) q) ∙ last-is t.sheet t.node p j.whole j.is q l x y
       | inr q ↦
-          let den : Denotes (t.sheet.nodes ++ ks) (length t.sheet.lines) (moved 0 0 p) = a_moved (node-new t.sheet.nodes (length t.sheet.lines) ks j.whole refl) (below t.sheet j.whole j.is) (more t.sheet.nodes ks j.is) in
+          let den : Denotes (t.sheet.nodes ++ ks) (length t.sheet.lines) (moved 0 0 p) = a_moved (new t.sheet b j.whole) (below t.sheet j.whole j.is) (more t.sheet.nodes ks j.is) in
           ap (λ b. layout_in (cond b D D').sheet.nodes l x y) (ne_eqb (suc t.node) (length t.sheet.lines) q)
-          ∙ last-is (added t.sheet ks None) (length t.sheet.lines) (moved 0 0 p) (whole-added t.sheet ks None j.whole refl) den (omega (arith, length_push t.sheet.lines None)) l x y
+          ∙ last-is (added t.sheet b None) (length t.sheet.lines) (moved 0 0 p) (whole-added t.sheet b None j.whole) den (omega (arith, length_push t.sheet.lines None)) l x y
           ∙ not-moved p l x y
     ]
 

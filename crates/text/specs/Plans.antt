@@ -1,5 +1,9 @@
 -- Statements drawn as nodes: which numbers a layout text means. Assumes nothing: these are definitions.
 use Rattle.std.specs.Prelude.{ℕ, suc, cond, List, [], ◌∷◌, ◌++◌, length, Some, None, vec_items, Option, ◌==◌, slice_index}
+use Rattle.layout.specs.declared.change.Change.{Change}
+use Rattle.layout.specs.declared.change.Change.TheVariants.{Move, Turn, Mirror}
+use Rattle.layout.specs.declared.node.Node.{Node}
+use Rattle.layout.specs.declared.node.Node.TheVariants.{One, Changed, Row, Column}
 use Rattle.words.specs.Steps.{by_some}
 use Rattle.text.specs.Sheets.{Nodes, added, joined, sheet_of}
 use Rattle.text.specs.declared.statement.Statement.{Statement}
@@ -39,17 +43,17 @@ abbrev pub waiting : Drawing → Option Put → Drawing
 waiting d p = record { sheet = d.sheet; cells = d.cells; outer = d.outer; inner = d.inner; within = d.within; put = p; pins = d.pins }
 
 -- a statement's node
-abbrev pub drawn : Drawing → List ℕ → ℕ → Drawing
+abbrev pub drawn : Drawing → Node → ℕ → Drawing
 drawn d node line = placed (sheeted d (added d.sheet node (Some line))) (length d.sheet.lines)
 
 -- a put is moved once its turns are over
 abbrev pub moved_on : Drawing → Drawing
-moved_on d = by_some d.put d (λ p. drawn (waiting d None) (3 ∷ p.x ∷ p.y ∷ p.node ∷ 0 ∷ 0 ∷ []) p.line)
+moved_on d = by_some d.put d (λ p. drawn (waiting d None) (Changed (Move p.x p.y) p.node) p.line)
 
-abbrev pub turned : Drawing → (kind side : ℕ) → Drawing
-turned d kind side =
+abbrev pub turned : Drawing → Change → Drawing
+turned d by =
     by_some d.put d
-    (λ p. waiting (sheeted d (added d.sheet (kind ∷ side ∷ p.node ∷ 0 ∷ 0 ∷ 0 ∷ []) (Some p.line))) (Some (record { node = length d.sheet.lines; x = p.x; y = p.y; line = p.line })))
+    (λ p. waiting (sheeted d (added d.sheet (Changed by p.node) (Some p.line))) (Some (record { node = length d.sheet.lines; x = p.x; y = p.y; line = p.line })))
 
 -- a cell ends: its statements are put together
 abbrev pub closed : Drawing → Drawing
@@ -65,14 +69,14 @@ pinned d p = record { sheet = d.sheet; cells = d.cells; outer = d.outer; inner =
 
 -- what each statement draws, but for a turn
 abbrev pub begun : Drawing → Statement → ℕ → Drawing
-begun d (statement.Box l x y a h) n = drawn d (1 ∷ l ∷ x ∷ y ∷ a ∷ h ∷ []) n
+begun d (statement.Box l x y a h) n = drawn d (One (record { layer = l; x = x; y = y; across = a; down = h })) n
 begun d statement.Cell n = opened d n
 begun d statement.Close n = closed d
 begun d (statement.Put c x y) n = waiting d (Some (record { node = slice_index d.cells c; x = x; y = y; line = n }))
 begun d (statement.Turned s) n = d
 begun d (statement.Mirrored s) n = d
-begun d (statement.Row m f c) n = drawn d (6 ∷ m ∷ f ∷ slice_index d.cells c ∷ 0 ∷ 0 ∷ []) n
-begun d (statement.Column m f c) n = drawn d (7 ∷ m ∷ f ∷ slice_index d.cells c ∷ 0 ∷ 0 ∷ []) n
+begun d (statement.Row m f c) n = drawn d (Row m f (slice_index d.cells c)) n
+begun d (statement.Column m f c) n = drawn d (Column m f (slice_index d.cells c)) n
 begun d (statement.Pin l x y) n = pinned d (record { layer = l; x = x; y = y })
 
 -- a turn changes the put before; any other statement ends that put
@@ -81,8 +85,8 @@ said d (statement.Box l x y a h) n = begun (moved_on d) (statement.Box l x y a h
 said d statement.Cell n = begun (moved_on d) statement.Cell n
 said d statement.Close n = begun (moved_on d) statement.Close n
 said d (statement.Put c x y) n = begun (moved_on d) (statement.Put c x y) n
-said d (statement.Turned s) n = turned d 4 s
-said d (statement.Mirrored s) n = turned d 5 s
+said d (statement.Turned s) n = turned d (Turn s)
+said d (statement.Mirrored s) n = turned d (Mirror s)
 said d (statement.Row m f c) n = begun (moved_on d) (statement.Row m f c) n
 said d (statement.Column m f c) n = begun (moved_on d) (statement.Column m f c) n
 said d (statement.Pin l x y) n = begun (moved_on d) (statement.Pin l x y) n
@@ -93,7 +97,7 @@ all_said d (s ∷ ss) = all_said (said d s.statement s.line) ss
 
 -- the layout is the last node: where a text's only statement is not, it is moved by nothing
 abbrev pub last : Drawing → ℕ → Drawing
-last d n = cond (suc n == length d.sheet.lines) d (sheeted d (added d.sheet (3 ∷ 0 ∷ 0 ∷ n ∷ 0 ∷ 0 ∷ []) None))
+last d n = cond (suc n == length d.sheet.lines) d (sheeted d (added d.sheet (Changed (Move 0 0) n) None))
 
 abbrev pub finished : Drawing → Drawing
 finished d =

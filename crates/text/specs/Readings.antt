@@ -133,12 +133,6 @@ unfoldable pub read : State → List Token → Result State ℕ
 read s [] = Ok s
 read s (t ∷ ts) = and_then (accept s t.bytes t.line) (λ z. read z ts)
 
--- an answer follows a model: what it leaves, or the line at which it refuses; nothing is said where memory ran out
-abbrev pub Follows : {U : Type 0} → Result State ℕ → State → Result U Fault → Type 0
-Follows m s (Ok u) = m ≡ Ok s
-Follows m s (Err (Refused e)) = (e ≡ Text (place_of e)) × (m ≡ Err (place_of e))
-Follows m s (Err Memory) = Unit {0}
-
 -- at the end no statement is left half said, and no cell open
 abbrev pub finished : State → Bool
 finished s = not (is_some s.begun || inside s)

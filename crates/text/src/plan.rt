@@ -2,9 +2,11 @@
 ghost use Rattle.std.specs.Prelude.{◌≡◌, IfOk, OnOk, slice_index};
 ghost use Rattle.text.specs.Plans.{blank, placed, drawn, moved_on, turned, closed, begun, said, all_said, last, finished, plan_of};
 
-use super::keyword::value_at;
 use super::sheet::Sheet;
 use super::statement::{Said, Statement};
+use layout::change::Change;
+use layout::node::Node;
+use layout::rect::Rect;
 use std::alloc::{AllocError, Global};
 
 /// A pin: a square of a layer that names its net.
@@ -18,7 +20,7 @@ pub struct Pin {
 /// A put whose turns may still follow: it is moved after them.
 #[derive(Clone, Copy)]
 pub(crate) struct Put {
-    pub(crate) node: u64,
+    pub(crate) node: usize,
     pub(crate) x: u64,
     pub(crate) y: u64,
     pub(crate) line: usize,
@@ -29,11 +31,11 @@ pub(crate) struct Put {
 pub(crate) struct Plan {
     pub(crate) sheet: Sheet,
     /// The node of each cell that has ended.
-    pub(crate) cells: Vec<u64>,
+    pub(crate) cells: Vec<usize>,
     /// The nodes of the text's statements.
-    pub(crate) outer: Vec<u64>,
+    pub(crate) outer: Vec<usize>,
     /// The nodes of the open cell's statements, and its line. They outlive the cell, as in `Scene`, so no struct holds both.
-    pub(crate) inner: Vec<u64>,
+    pub(crate) inner: Vec<usize>,
     pub(crate) within: Option<usize>,
     pub(crate) put: Option<Put>,
     pub(crate) pins: Vec<Pin>,
@@ -58,7 +60,7 @@ impl Plan {
     }
 
     /// Counts a node as a statement's, of the cell that is open or of the text.
-    fn place(&mut self, node: u64) -> Result<(), AllocError>
+    fn place(&mut self, node: usize) -> Result<(), AllocError>
         ensures { OnOk result (plan_of self.new ≡ placed (plan_of self.old) node) }
     {
         match self.within {
@@ -69,7 +71,7 @@ impl Plan {
     }
 
     /// Adds the node of a statement.
-    fn draw(&mut self, node: [u64; 6], line: usize) -> Result<(), AllocError>
+    fn draw(&mut self, node: Node, line: usize) -> Result<(), AllocError>
         ensures { OnOk result (plan_of self.new ≡ drawn (plan_of self.old) node line) }
     {
         let number = self.sheet.add(node, Some(line))?;
@@ -81,17 +83,25 @@ impl Plan {
         ensures { OnOk result (plan_of self.new ≡ moved_on (plan_of self.old)) }
     {
         match self.put.take() {
-            Some(p) => self.draw([3, p.x, p.y, p.node, 0, 0], p.line),
+            Some(p) => {
+                let by = Change::Move {
+                    right: p.x,
+                    below: p.y,
+                };
+                self.draw(Node::Changed { by, of: p.node }, p.line)
+            }
             None => Ok(()),
         }
     }
 
     /// Turns or mirrors the put that waits.
-    fn turn(&mut self, kind: u64, side: u64) -> Result<(), AllocError>
-        ensures { OnOk result (plan_of self.new ≡ turned (plan_of self.old) kind side) }
+    fn turn(&mut self, by: Change) -> Result<(), AllocError>
+        ensures { OnOk result (plan_of self.new ≡ turned (plan_of self.old) by) }
     {
         if let Some(p) = self.put {
-            let node = self.sheet.add([kind, side, p.node, 0, 0, 0], Some(p.line))?;
+            let node = self
+                .sheet
+                .add(Node::Changed { by, of: p.node }, Some(p.line))?;
             self.put = Some(Put { node, ..p });
         }
         Ok(())
@@ -108,10 +118,10 @@ impl Plan {
     }
 
     /// The node of a cell.
-    fn node_of(&self, cell: u64) -> u64
+    fn node_of(&self, cell: u64) -> usize
         ensures { result ≡ slice_index (plan_of self.now).cells cell }
     {
-        value_at(self.cells.as_slice(), cell as usize)
+        self.cells.get(cell as usize).copied().unwrap_or(0)
     }
 
     /// Draws a statement.
@@ -119,8 +129,8 @@ impl Plan {
         ensures { OnOk result (plan_of self.new ≡ said (plan_of self.old) statement line) }
     {
         match statement {
-            Statement::Turned { side } => self.turn(4, side),
-            Statement::Mirrored { side } => self.turn(5, side),
+            Statement::Turned { side } => self.turn(Change::Turn { side }),
+            Statement::Mirrored { side } => self.turn(Change::Mirror { side }),
             _ => {
                 self.move_on()?;
                 self.begin(statement, line)
@@ -139,7 +149,16 @@ impl Plan {
                 y,
                 across,
                 down,
-            } => self.draw([1, layer, x, y, across, down], line),
+            } => {
+                let rect = Rect {
+                    layer,
+                    x,
+                    y,
+                    across,
+                    down,
+                };
+                self.draw(Node::One(rect), line)
+            }
             Statement::Cell => {
                 self.inner.clear();
                 self.within = Some(line);
@@ -152,10 +171,12 @@ impl Plan {
                 Ok(())
             }
             Statement::Row { many, far, cell } => {
-                self.draw([6, many, far, self.node_of(cell), 0, 0], line)
+                let of = self.node_of(cell);
+                self.draw(Node::Row { many, far, of }, line)
             }
             Statement::Column { many, far, cell } => {
-                self.draw([7, many, far, self.node_of(cell), 0, 0], line)
+                let of = self.node_of(cell);
+                self.draw(Node::Column { many, far, of }, line)
             }
             Statement::Pin { layer, x, y } => {
                 self.pins.push(Pin { layer, x, y })?;
@@ -175,13 +196,14 @@ impl Plan {
     }
 
     /// The last node is the layout: a text's only statement may stand before a cell that is never put, and is then moved by nothing.
-    fn come_last(&mut self, node: u64) -> Result<(), AllocError>
+    fn come_last(&mut self, node: usize) -> Result<(), AllocError>
         ensures { OnOk result (plan_of self.new ≡ last (plan_of self.old) node) }
     {
-        if node.checked_add(1) == Some(self.sheet.lines.len() as u64) {
+        if node.checked_add(1) == Some(self.sheet.lines.len()) {
             return Ok(());
         }
-        let _last = self.sheet.add([3, 0, 0, node, 0, 0], None)?;
+        let by = Change::Move { right: 0, below: 0 };
+        let _last = self.sheet.add(Node::Changed { by, of: node }, None)?;
         Ok(())
     }
 }

@@ -1,7 +1,8 @@
 // Reads the words of a layout text, one after another, into statements.
 ghost use Rattle.std.specs.Prelude.{◌≡◌, map, OnOk};
+ghost use Rattle.layout.specs.Refusals.{Follows};
 ghost use Rattle.words.specs.Words.{token_of};
-ghost use Rattle.text.specs.Readings.{start, inside, may_begin, new_name, value_of, closed_by, settled, begin, noted, go_on, accept, read, said_in, started, state_of, Follows, Read};
+ghost use Rattle.text.specs.Readings.{start, inside, may_begin, new_name, value_of, closed_by, settled, begin, noted, go_on, accept, read, said_in, started, state_of, Read};
 
 use super::keyword::{Keyword, Slot, keyword_of};
 use super::statement::Said;

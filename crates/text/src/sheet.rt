@@ -2,6 +2,7 @@
 ghost use Rattle.std.specs.Prelude.{◌≡◌, length, IfOk, OnOk};
 ghost use Rattle.text.specs.Sheets.{added, joined, sheet_of};
 
+use layout::node::Node;
 use std::alloc::AllocError;
 
 /// Six numbers for each node, and the line of its statement, where it has one.
@@ -13,27 +14,27 @@ pub(crate) struct Sheet {
 }
 
 impl Sheet {
-    /// Adds a node, and says which it is. Its first number is its kind, as the layout entries know it.
-    pub(crate) fn add(&mut self, node: [u64; 6], line: Option<usize>) -> Result<u64, AllocError>
+    /// Adds a node, and says which it is.
+    pub(crate) fn add(&mut self, node: Node, line: Option<usize>) -> Result<usize, AllocError>
         ensures number { IfOk result (λ n. n ≡ length (sheet_of self.old).lines) }
         ensures after { OnOk result (sheet_of self.new ≡ added (sheet_of self.old) node line) }
     {
-        let number = self.lines.len() as u64;
-        self.nodes.extend_from_slice(&node)?;
+        let number = self.lines.len();
+        self.nodes.extend_from_slice(&node.numbers())?;
         self.lines.push(line)?;
         Ok(number)
     }
 
     /// Puts parts together, two at a time, and says which node that is.
-    pub(crate) fn join(&mut self, parts: &[u64], line: Option<usize>) -> Result<u64, AllocError>
+    pub(crate) fn join(&mut self, parts: &[usize], line: Option<usize>) -> Result<usize, AllocError>
         ensures { IfOk result (λ n. joined (sheet_of self.old) parts.now line ≡ record { sheet = sheet_of self.new; node = n }) }
     {
         let Some((first, others)) = parts.split_first() else {
-            return self.add([0, 0, 0, 0, 0, 0], line);
+            return self.add(Node::Nothing, line);
         };
         let mut node = *first;
         for part in others {
-            node = self.add([2, node, *part, 0, 0, 0], line)?;
+            node = self.add(Node::Both(node, *part), line)?;
         }
         Ok(node)
     }
