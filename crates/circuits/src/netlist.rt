@@ -96,7 +96,7 @@ fn count(devices: &[Device], device: Device) -> usize
 }
 
 /// How many devices are like each one, counted once for the whole search.
-pub fn likes(devices: &[Device]) -> [usize; 256]
+pub(crate) fn likes(devices: &[Device]) -> [usize; 256]
     requires { length devices.now ≤ 256 }
     ensures { (i : ℕ) → i < length devices.now → slice_index result i ≡ has devices.now (device_at devices.now i) }
 {
@@ -120,7 +120,7 @@ pub struct Circuit<'a> {
 
 impl<'a> Circuit<'a> {
     /// The circuit that numbers say, where they say one, its devices have been read, and those like each counted.
-    pub fn new(
+    pub(crate) fn new(
         nets: u64,
         numbers: &[u64],
         room: &'a [Device; 256],
