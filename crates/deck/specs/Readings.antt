@@ -3,7 +3,7 @@ use Rattle.std.specs.Prelude.{◌≡◌, ℕ, ◌<◌, Bool, true, List, length,
 use Rattle.std.specs.declared.alloc.Global.{Global}
 use Rattle.std.specs.List.{AllByRecursion}
 use Rattle.region.specs.declared.regions.Region.{Region}
-use Rattle.rules.specs.Tests.{RuleRead}
+use Rattle.rules.specs.Tests.{RuleRead, terms_of}
 use Rattle.rules.specs.Values.{among, Breaking}
 use Rattle.rules.specs.declared.term.Term.TheVariants.{Layer}
 use Rattle.rules.specs.declared.rule.Rule.{Rule}
@@ -28,7 +28,7 @@ DeckRead ts (Err fault.Memory) = Unit {0}
 
 -- the layers that a rule names are marked
 abbrev pub Marks : List Bool → Rule → Type 0
-Marks wanted r = (i l : ℕ) → i < length r.terms.items → slice_index_or r.terms.items i (Layer 0) ≡ Layer l → among wanted l ≡ true
+Marks wanted r = (i l : ℕ) → i < length (terms_of r) → slice_index_or (terms_of r) i (Layer 0) ≡ Layer l → among wanted l ≡ true
 
 abbrev pub AllMarked : List Rule → List Bool → Type 0
 AllMarked rs wanted = AllByRecursion (Marks wanted) rs

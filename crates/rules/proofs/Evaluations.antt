@@ -15,6 +15,7 @@ use Rattle.rules.specs.Rules.{squares, breaks, surrounded}
 use Rattle.rules.specs.Numbers.{max_number}
 use Rattle.rules.specs.Terms.{term_region, Names}
 use Rattle.rules.specs.Layers.{shows}
+use Rattle.rules.specs.Tests.{terms_of}
 use Rattle.rules.specs.Values.{values, value, Over, among, Shown, done_at, TermDone, Evaluated}
 use Rattle.rules.specs.declared.term.Term.{Term}
 use Rattle.rules.specs.declared.term.Term.TheVariants.{Layer, And, Or, Without, Grown}
@@ -121,29 +122,29 @@ pub evaluated_none : (d : Drawing) (ts : List Term) (need : List Bool) (done : L
 evaluated_none d ts need done = record { holds = λ i x y e l t. absurd (omega arith) }
 
 -- a rule of regions that are evaluated
-module _ (d : Drawing) (m : ℕ) (s : Layers) (r : Rule) (shown : Shown d m s r.terms.items (length r.terms.items)) (i : ℕ) (l : i < (length r.terms.items)) (A : Squares) (is : (x y : ℕ) → A x y ≡ squares d (value r.terms.items i) x y) where
-  path : A ≡ squares d (value r.terms.items i)
+module _ (d : Drawing) (m : ℕ) (s : Layers) (r : Rule) (shown : Shown d m s (terms_of r) (length (terms_of r))) (i : ℕ) (l : i < (length (terms_of r))) (A : Squares) (is : (x y : ℕ) → A x y ≡ squares d (value (terms_of r) i) x y) where
+  path : A ≡ squares d (value (terms_of r) i)
   path = same-squares A _ is
 
-  settled : Settled (reach m i) (squares d (value r.terms.items i))
-  settled = settled-value d m r.terms.items (length r.terms.items) shown.settles r.sound.names i l
+  settled : Settled (reach m i) (squares d (value (terms_of r) i))
+  settled = settled-value d m (terms_of r) (length (terms_of r)) shown.settles r.sound.names i l
 
   fits : (k : ℕ) → k ≤ max_number → reach m i + 2 * k < 2 ^ 64
   unfolding reach
   fits k q = omega (arith, shown.near, r.sound.few)
 
-  pub wide_is : (R : Squares) (k : ℕ) → k ≤ max_number → Exactly (2 * k) A (λ x y. A x y && not (in_a_block k A x y)) R → (x y : ℕ) → R x y ≡ breaks d (rules.wide (value r.terms.items i) k) x y
+  pub wide_is : (R : Squares) (k : ℕ) → k ≤ max_number → Exactly (2 * k) A (λ x y. A x y && not (in_a_block k A x y)) R → (x y : ℕ) → R x y ≡ breaks d (rules.wide (value (terms_of r) i) k) x y
   unfolding breaks
   wide_is R k q h x y = (subst (λ f. Exactly (2 * k) f (λ x y. f x y && not (in_a_block k f x y)) R) path h).holds (reach m i) (fits k q) settled x y
 
-  pub apart-is : (R : Squares) (k : ℕ) → k ≤ max_number → Exactly (2 * k) A (λ x y. not (A x y) && not (free_block k A x y)) R → (x y : ℕ) → R x y ≡ breaks d (rules.apart (value r.terms.items i) k) x y
+  pub apart-is : (R : Squares) (k : ℕ) → k ≤ max_number → Exactly (2 * k) A (λ x y. not (A x y) && not (free_block k A x y)) R → (x y : ℕ) → R x y ≡ breaks d (rules.apart (value (terms_of r) i) k) x y
   unfolding breaks
   apart-is R k q h x y = (subst (λ f. Exactly (2 * k) f (λ x y. not (f x y) && not (free_block k f x y)) R) path h).holds (reach m i) (fits k q) settled x y
 
-  pub inside_is : (R B : Squares) (j k : ℕ) → ((x y : ℕ) → B x y ≡ squares d (value r.terms.items j) x y) → k ≤ max_number → Exactly (2 * k) A (λ x y. B x y && not (surrounded k A x y)) R → (x y : ℕ) → R x y ≡ breaks d (rules.inside (value r.terms.items j) (value r.terms.items i) k) x y
+  pub inside_is : (R B : Squares) (j k : ℕ) → ((x y : ℕ) → B x y ≡ squares d (value (terms_of r) j) x y) → k ≤ max_number → Exactly (2 * k) A (λ x y. B x y && not (surrounded k A x y)) R → (x y : ℕ) → R x y ≡ breaks d (rules.inside (value (terms_of r) j) (value (terms_of r) i) k) x y
   unfolding breaks
-  inside_is R B j k b q h x y = (subst (λ f. Exactly (2 * k) f (λ x y. B x y && not (surrounded k f x y)) R) path h).holds (reach m i) (fits k q) settled x y ∙ ap (λ v. v && not (surrounded k (squares d (value r.terms.items i)) x y)) (b x y)
+  inside_is R B j k b q h x y = (subst (λ f. Exactly (2 * k) f (λ x y. B x y && not (surrounded k f x y)) R) path h).holds (reach m i) (fits k q) settled x y ∙ ap (λ v. v && not (surrounded k (squares d (value (terms_of r) i)) x y)) (b x y)
 
-  pub never-is : (R : Squares) → ((x y : ℕ) → R x y ≡ A x y) → (x y : ℕ) → R x y ≡ breaks d (rules.never (value r.terms.items i)) x y
+  pub never-is : (R : Squares) → ((x y : ℕ) → R x y ≡ A x y) → (x y : ℕ) → R x y ≡ breaks d (rules.never (value (terms_of r) i)) x y
   unfolding breaks
   never-is R h x y = h x y ∙ is x y

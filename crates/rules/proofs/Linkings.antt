@@ -13,7 +13,7 @@ use Rattle.blocks.specs.Settled.{Settled}
 use Rattle.rules.specs.Rules as rules
 use Rattle.rules.specs.Rules.{breaks}
 use Rattle.rules.specs.Numbers.{regions_from, regions_in, meant, rule_in, number_fault, or_else, further, Taken}
-use Rattle.rules.specs.Tests.{test_rule, TermsRead, RuleRead}
+use Rattle.rules.specs.Tests.{test_rule, terms_of, TermsRead, RuleRead}
 use Rattle.rules.specs.Layers.{Swept}
 use Rattle.rules.specs.Values.{values, value, held_rule, Shown}
 use Rattle.rules.specs.Judged.{LayersMarked}
@@ -54,19 +54,19 @@ meant_is xs ts len back e l b =
 
 pub rule-is : (xs : List ℕ) (k n : ℕ) (r : Rule) → RuleRead xs k n r → rule_in xs k n ≡ held_rule r
 rule-is xs k n r h =
-    let e = regions-are xs r.terms.items (length r.terms.items) h.length_is h.terms in
-    let l : 0 < (length r.terms.items) = omega (arith, r.sound.enough, needs-some r.test) in
+    let e = regions-are xs (terms_of r) (length (terms_of r)) h.length_is h.terms in
+    let l : 0 < (length (terms_of r)) = omega (arith, r.sound.enough, needs-some r.test) in
     h.test.same (meant 2 xs) (meant 1 xs)
-    ∙ ap (λ v. test_rule v (meant 1 xs) r.test) (meant_is xs r.terms.items (length r.terms.items) 2 e l (omega arith))
-    ∙ ap (λ v. test_rule (value r.terms.items ((length r.terms.items) - 2)) v r.test) (meant_is xs r.terms.items (length r.terms.items) 1 e l (omega arith))
+    ∙ ap (λ v. test_rule v (meant 1 xs) r.test) (meant_is xs (terms_of r) (length (terms_of r)) 2 e l (omega arith))
+    ∙ ap (λ v. test_rule (value (terms_of r) ((length (terms_of r)) - 2)) v r.test) (meant_is xs (terms_of r) (length (terms_of r)) 1 e l (omega arith))
 
 pub taken_is : (xs : List ℕ) (k n : ℕ) (r : Rule) → RuleRead xs k n r → Taken xs k n
 taken_is xs k n r h = record {
-  many = (length r.terms.items);
+  many = (length (terms_of r));
   length_is = h.length_is;
   enough = omega (arith, h.test.many, r.sound.enough);
   few = r.sound.few;
-  sound = ap (λ o. or_else o (further (3 * (length r.terms.items)) (number_fault k n))) h.sound ∙ ap (further (3 * (length r.terms.items))) h.test.sound;
+  sound = ap (λ o. or_else o (further (3 * (length (terms_of r))) (number_fault k n))) h.sound ∙ ap (further (3 * (length (terms_of r)))) h.test.sound;
 }
 
 -- boxes that end by m cover nothing from there on
@@ -86,7 +86,7 @@ settled_covered m qs h l = record {
   rows = λ x y k. past_row m qs l x y h k ∙ sym (past_row m qs l x m h (omega arith));
 }
 
-pub shown_is : (qs : List Rect) (s : Layers) (r : Rule) (before wanted : List Bool) → AllByRecursion (Within (2 ^ 40)) qs → LayersMarked r before wanted → Swept (covered qs) wanted s → Shown (covered qs) (2 ^ 40) s r.terms.items (length r.terms.items)
+pub shown_is : (qs : List Rect) (s : Layers) (r : Rule) (before wanted : List Bool) → AllByRecursion (Within (2 ^ 40)) qs → LayersMarked r before wanted → Swept (covered qs) wanted s → Shown (covered qs) (2 ^ 40) s (terms_of r) (length (terms_of r))
 shown_is qs s r before wanted h m w = record {
   near = omega arith;
   settles = settled_covered (2 ^ 40) qs h;
@@ -103,7 +103,7 @@ same-drawing d e h = λ i l x y. h l x y i
 -- what is judged on the layers of boxes that draw a layout
 pub judged_is : (xs rs : List ℕ) (k n : ℕ) (qs : List Rect) (r : Rule) (s : Layers) (before wanted : List Bool) (o : Option (ℕ × ℕ))
     → ((l x y : ℕ) → covered qs l x y ≡ layout_in xs l x y) → AllByRecursion (Within (2 ^ 40)) qs → RuleRead rs k n r → LayersMarked r before wanted → Swept (covered qs) wanted s
-    → ((d : Drawing) (m : ℕ) → Shown d m s r.terms.items (length r.terms.items) → FirstOf (breaks d (held_rule r)) o) → FirstOf (breaks (layout_in xs) (rule_in rs k n)) o
+    → ((d : Drawing) (m : ℕ) → Shown d m s (terms_of r) (length (terms_of r)) → FirstOf (breaks d (held_rule r)) o) → FirstOf (breaks (layout_in xs) (rule_in rs k n)) o
 judged_is xs rs k n qs r s before wanted o draws near read marked swept first =
     let d : covered qs ≡ layout_in xs = same-drawing _ _ draws in
     let f = first (covered qs) (2 ^ 40) (shown_is qs s r before wanted near marked swept) in

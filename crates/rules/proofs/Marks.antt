@@ -2,6 +2,7 @@
 use Rattle.std.proofs.Common.{◌≡◌, ℕ, suc, ◌-◌, ◌<◌, ◌≤◌, Bool, true, false, ◌≢◌, List, length, get_or, set, sym, refl, ◌∙◌, subst, inl, inr, arith, length-set, get_or-set_other, get_or-set_same}
 use Rattle.std.proofs.ByRecursion.{All-weaker}
 use Rattle.std.proofs.lemmas.Bool.{cases_eq, cases_lt, false≢true}
+use Rattle.rules.specs.Tests.{terms_of}
 use Rattle.rules.specs.Values.{Over, among, Marked, Needed}
 use Rattle.rules.specs.Terms.{named}
 use Rattle.rules.specs.Sound.{needs}
@@ -47,21 +48,21 @@ marked_two n a b t need l k m o =
 -- terms from n on are closed
 pub record Marking (r : Rule) (n : ℕ) (need : List Bool) : Type 0 where
   pub long : length need ≡ 16
-  pub last : among need ((length r.terms.items) - 1) ≡ true
-  pub before : needs r.test ≡ 2 → among need ((length r.terms.items) - 2) ≡ true
-  pub closed : (i : ℕ) → n ≤ i → i < (length r.terms.items) → among need i ≡ true → Over (among need) (get_or r.terms.items i (Layer 0))
+  pub last : among need ((length (terms_of r)) - 1) ≡ true
+  pub before : needs r.test ≡ 2 → among need ((length (terms_of r)) - 2) ≡ true
+  pub closed : (i : ℕ) → n ≤ i → i < (length (terms_of r)) → among need i ≡ true → Over (among need) (get_or (terms_of r) i (Layer 0))
 
 pub over-keeps : (p q : ℕ → Bool) → ((i : ℕ) → p i ≡ true → q i ≡ true) → (t : Term) → Over p t → Over q t
 over-keeps p q h t o = All-weaker (λ a. p a ≡ true) (λ a. q a ≡ true) h (named t) o
 
-pub mark-needed : (r : Rule) (k : ℕ) (need need' : List Bool) → Marking r (suc k) need → Marked k (get_or r.terms.items k (Layer 0)) need need' → Marking r k need'
+pub mark-needed : (r : Rule) (k : ℕ) (need need' : List Bool) → Marking r (suc k) need → Marked k (get_or (terms_of r) k (Layer 0)) need need' → Marking r k need'
 mark-needed r k need need' h m = record {
   long = m.long ∙ h.long;
-  last = m.keeps ((length r.terms.items) - 1) h.last;
-  before = λ e. m.keeps ((length r.terms.items) - 2) (h.before e);
+  last = m.keeps ((length (terms_of r)) - 1) h.last;
+  before = λ e. m.keeps ((length (terms_of r)) - 2) (h.before e);
   closed = λ i l q t. elim (cases_eq i k) [
-    | inl e ↦ subst (λ j. Over (among need') (get_or r.terms.items j (Layer 0))) (sym e) m.over
-    | inr e ↦ over-keeps (among need) (among need') m.keeps (get_or r.terms.items i (Layer 0)) (h.closed i (elim (cases_lt k i) [ inl s ↦ s | inr s ↦ absurd (e (omega arith)) ]) q (sym (m.later i l) ∙ t))
+    | inl e ↦ subst (λ j. Over (among need') (get_or (terms_of r) j (Layer 0))) (sym e) m.over
+    | inr e ↦ over-keeps (among need) (among need') m.keeps (get_or (terms_of r) i (Layer 0)) (h.closed i (elim (cases_lt k i) [ inl s ↦ s | inr s ↦ absurd (e (omega arith)) ]) q (sym (m.later i l) ∙ t))
   ];
 }
 
@@ -92,26 +93,26 @@ needs-some (Apart n) = omega arith
 needs-some (Inside n) = omega arith
 needs-some Never = omega arith
 
-pub mark-last : (r : Rule) (base : List Bool) → length base ≡ 16 → ((n : ℕ) → r.test ≡ Inside n → ⊥) → Marking r (length r.terms.items) (set base ((length r.terms.items) - 1) true)
+pub mark-last : (r : Rule) (base : List Bool) → length base ≡ 16 → ((n : ℕ) → r.test ≡ Inside n → ⊥) → Marking r (length (terms_of r)) (set base ((length (terms_of r)) - 1) true)
 mark-last r base l n =
     let few = r.sound.few in
     let some = needs-some r.test in
     let enough = r.sound.enough in
     record {
       long = simp length-set l;
-      last = set_here base ((length r.terms.items) - 1) (omega arith);
+      last = set_here base ((length (terms_of r)) - 1) (omega arith);
       before = λ e. let w = needs_two r.test e in absurd (n w.0 w.1);
       closed = λ i k q t. absurd (omega arith);
     }
 
-pub mark-both : (r : Rule) (base : List Bool) (n : ℕ) → length base ≡ 16 → r.test ≡ Inside n → Marking r (length r.terms.items) (set (set base ((length r.terms.items) - 1) true) ((length r.terms.items) - 2) true)
+pub mark-both : (r : Rule) (base : List Bool) (n : ℕ) → length base ≡ 16 → r.test ≡ Inside n → Marking r (length (terms_of r)) (set (set base ((length (terms_of r)) - 1) true) ((length (terms_of r)) - 2) true)
 mark-both r base n l e =
     let few = r.sound.few in
-    let enough : 2 ≤ (length r.terms.items) = subst (λ t. needs t ≤ (length r.terms.items)) e r.sound.enough in
-    let long : length (set base ((length r.terms.items) - 1) true) ≡ 16 = simp length-set l in
+    let enough : 2 ≤ (length (terms_of r)) = subst (λ t. needs t ≤ (length (terms_of r))) e r.sound.enough in
+    let long : length (set base ((length (terms_of r)) - 1) true) ≡ 16 = simp length-set l in
     record {
       long = simp length-set l;
-      last = set_keeps _ ((length r.terms.items) - 2) ((length r.terms.items) - 1) (omega arith) (set_here base ((length r.terms.items) - 1) (omega arith));
-      before = λ q. set_here _ ((length r.terms.items) - 2) (omega arith);
+      last = set_keeps _ ((length (terms_of r)) - 2) ((length (terms_of r)) - 1) (omega arith) (set_here base ((length (terms_of r)) - 1) (omega arith));
+      before = λ q. set_here _ ((length (terms_of r)) - 2) (omega arith);
       closed = λ i k q t. absurd (omega arith);
     }

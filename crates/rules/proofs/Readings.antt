@@ -1,6 +1,6 @@
 -- Regions read one by one, up to the first fault. Assumes nothing.
-use Rattle.std.proofs.Common.{◌≡◌, ℕ, zero, suc, ◌+◌, ◌-◌, ◌*◌, ◌<◌, ◌≤◌, List, [], ◌∷◌, ◌++◌, length, get_or, Some, None, Option, refl, ap, ◌∙◌, subst, inl, inr, add-one, arith, below_more}
-use Rattle.std.proofs.lemmas.List.{get_or_append_left, get_or-append_right}
+use Rattle.std.proofs.Common.{◌≡◌, ℕ, zero, suc, ◌+◌, ◌*◌, ◌<◌, ◌≤◌, ◌≢◌, List, length, get_or, set, take, Some, None, Option, refl, ap, ◌∙◌, subst, inl, inr, add-one, arith, get_or-set_other, get_or-set_same, below_more}
+use Rattle.std.proofs.lemmas.List.{get_or-take}
 use Rattle.std.proofs.lemmas.Bool.{cases_lt, cases_eq}
 use Rattle.rules.specs.Numbers.{region_fault, regions_fault, further}
 use Rattle.rules.specs.Terms.{Read}
@@ -45,8 +45,12 @@ fault_of xs m n q l h g =
     let p = further_some (3 * n) q (fault_at xs n) g in
     fault_first xs m n p.0 l h p.1 ∙ ap Some p.2
 
-pub terms-more : (xs : List ℕ) (n : ℕ) (ts : List Term) (t : Term) → length ts ≡ n → TermsRead xs n ts → Read n (get_or xs (3 * n) 0) (get_or xs (3 * n + 1) 0) (get_or xs (3 * n + 2) 0) t → TermsRead xs (n + 1) (ts ++ t ∷ [])
+pub terms-more : (xs : List ℕ) (n : ℕ) (ts : List Term) (t : Term) → n < length ts → TermsRead xs n ts → Read n (get_or xs (3 * n) 0) (get_or xs (3 * n + 1) 0) (get_or xs (3 * n + 2) 0) t → TermsRead xs (n + 1) (set ts n t)
 terms-more xs n ts t l h r =
-    below_more (λ i. Read i (get_or xs (3 * i) 0) (get_or xs (3 * i + 1) 0) (get_or xs (3 * i + 2) 0) (get_or (ts ++ t ∷ []) i (Layer 0))) n
-    (λ k q. rw (get_or_append_left ts (t ∷ []) (Layer 0) k (omega arith)) (h k q))
-    (rw (get_or-append_right ts (t ∷ []) n n (Layer 0) l (omega arith)) (let z : n - n ≡ 0 = omega arith in rw z r))
+    below_more (λ i. Read i (get_or xs (3 * i) 0) (get_or xs (3 * i + 1) 0) (get_or xs (3 * i + 2) 0) (get_or (set ts n t) i (Layer 0))) n
+    (λ k q. let ne : k ≢ n = omega arith in rw get_or-set_other (h k q))
+    (rw get_or-set_same r)
+
+-- what is read of an array's first terms
+pub terms_taken : (xs : List ℕ) (n : ℕ) (ts : List Term) → TermsRead xs n ts → TermsRead xs n (take n ts)
+terms_taken xs n ts h i l = rw (get_or-take n ts i (Layer 0) l) (h i l)

@@ -7,6 +7,7 @@ use Rattle.layout.specs.declared.refusal.Fault.TheVariants as fault
 use Rattle.region.specs.Firsts.{First, Squares}
 use Rattle.rules.specs.Rules.{breaks}
 use Rattle.rules.specs.Numbers.{rule_in, RuleTurned, Taken}
+use Rattle.rules.specs.Tests.{terms_of}
 use Rattle.rules.specs.Values.{among}
 use Rattle.rules.specs.declared.term.Term.TheVariants.{Layer}
 use Rattle.rules.specs.declared.rule.Rule.{Rule}
@@ -15,7 +16,7 @@ use Rattle.rules.specs.declared.judge.Verdict.TheVariants.{Clean, Broken}
 
 -- the layers of all terms are marked, and what was marked stays so
 pub record LayersMarked (r : Rule) (before after : List Bool) : Type 0 where
-  pub marks : (i l : ℕ) → i < length r.terms.items → slice_index_or r.terms.items i (Layer 0) ≡ Layer l → among after l ≡ true
+  pub marks : (i l : ℕ) → i < length (terms_of r) → slice_index_or (terms_of r) i (Layer 0) ≡ Layer l → among after l ≡ true
   pub keeps : (l : ℕ) → among before l ≡ true → among after l ≡ true
 
 -- no square breaks the rule, or this is the first one that does

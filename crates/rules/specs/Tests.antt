@@ -1,5 +1,5 @@
 -- A rule as it is held: terms, and what is asked of the meant ones. Assumes nothing: these are definitions.
-use Rattle.std.specs.Prelude.{◌≡◌, ℕ, ◌+◌, ◌*◌, ◌<◌, ◌≤◌, ◌⊎◌, List, length, Some, None, Ok, Err, Result, ◌==◌, slice_index, slice_index_or}
+use Rattle.std.specs.Prelude.{◌≡◌, ℕ, ◌+◌, ◌*◌, ◌<◌, ◌≤◌, ◌⊎◌, List, length, take, Some, None, Ok, Err, Result, ◌==◌, slice_index, slice_index_or}
 use Rattle.layout.specs.Layout.{pick}
 use Rattle.layout.specs.declared.refusal.Refusal.{Refusal}
 use Rattle.rules.specs.Rules as rules
@@ -8,12 +8,15 @@ use Rattle.rules.specs.Terms.{Read}
 use Rattle.rules.specs.Sound.{Mild, needs}
 use Rattle.layout.specs.Refusals.{place_of}
 use Rattle.layout.specs.declared.refusal.Refusal.TheVariants.{Region}
-use Rattle.arrayvec.specs.ArrayVec.{ArrayVec}
 use Rattle.rules.specs.declared.term.Term.{Term}
 use Rattle.rules.specs.declared.term.Term.TheVariants.{Layer}
 use Rattle.rules.specs.declared.rule.Test.{Test}
 use Rattle.rules.specs.declared.rule.Test.TheVariants.{Wide, Apart, Inside, Never}
 use Rattle.rules.specs.declared.rule.Rule.{Rule}
+
+-- the terms that a rule has
+abbrev pub terms_of : Rule → List Term
+terms_of r = take r.len r.terms
 
 -- the rule that a test is of the last region, and for inside of the one before it
 abbrev pub test_rule : (before last : rules.Region) → Test → rules.Rule
@@ -42,15 +45,15 @@ Tests k n at (Err e) = (e ≡ Region (place_of e)) × (further at (number_fault 
 abbrev pub TermsRead : (xs : List ℕ) (m : ℕ) → List Term → Type 0
 TermsRead xs m ts = (i : ℕ) → i < m → Read i (slice_index xs (3 * i)) (slice_index xs (3 * i + 1)) (slice_index xs (3 * i + 2)) (slice_index_or ts i (Layer 0))
 
-abbrev pub Terms : (xs : List ℕ) (m : ℕ) → Result (ArrayVec Term) Refusal → Type 0
-Terms xs m (Ok ts) = (length ts.items ≡ m) × (regions_fault xs m ≡ None) × TermsRead xs m ts.items
+abbrev pub Terms : (xs : List ℕ) (m : ℕ) → Result (List Term) Refusal → Type 0
+Terms xs m (Ok ts) = (length (take m ts) ≡ m) × (regions_fault xs m ≡ None) × TermsRead xs m (take m ts)
 Terms xs m (Err e) = (e ≡ Region (place_of e)) × (regions_fault xs m ≡ Some (place_of e))
 
 pub record RuleRead (xs : List ℕ) (k n : ℕ) (r : Rule) : Type 0 where
-  pub length_is : length xs ≡ 3 * length r.terms.items
-  pub terms : TermsRead xs (length r.terms.items) r.terms.items
+  pub length_is : length xs ≡ 3 * length (terms_of r)
+  pub terms : TermsRead xs (length (terms_of r)) (terms_of r)
   pub test : TestRead k n r.test
-  pub sound : regions_fault xs (length r.terms.items) ≡ None
+  pub sound : regions_fault xs (length (terms_of r)) ≡ None
 
 -- the rule of numbers that are taken, or why they are turned away
 abbrev pub RulesRead : (xs : List ℕ) (k n : ℕ) → Result Rule Refusal → Type 0

@@ -11,7 +11,7 @@ use Rattle.rules.specs.Rules as rules
 use Rattle.rules.specs.Rules.{squares, breaks}
 use Rattle.rules.specs.Terms.{named, term_region}
 use Rattle.rules.specs.Sound.{needs}
-use Rattle.rules.specs.Tests.{test_rule}
+use Rattle.rules.specs.Tests.{test_rule, terms_of}
 use Rattle.rules.specs.Layers.{shows}
 use Rattle.rules.specs.declared.term.Term.{Term}
 use Rattle.rules.specs.declared.term.Term.TheVariants.{Layer, And, Or, Without, Grown}
@@ -29,7 +29,7 @@ value ts n = term_region (λ i. get_or (values ts n) i (rules.layer 0)) (slice_i
 
 -- the rule that is held
 abbrev pub held_rule : Rule → rules.Rule
-held_rule r = test_rule (value r.terms.items (length r.terms.items - 2)) (value r.terms.items (length r.terms.items - 1)) r.test
+held_rule r = test_rule (value (terms_of r) (length (terms_of r) - 2)) (value (terms_of r) (length (terms_of r) - 1)) r.test
 
 -- each term that a term names passes a test
 abbrev pub Over : (ℕ → Bool) → Term → Type 0
@@ -47,9 +47,9 @@ pub record Marked (n : ℕ) (t : Term) (before after : List Bool) : Type 0 where
 
 -- the meant terms are marked, and with each term those that it names
 pub record Needed (r : Rule) (need : List Bool) : Type 0 where
-  pub last : among need (length r.terms.items - 1) ≡ true
-  pub before : needs r.test ≡ 2 → among need (length r.terms.items - 2) ≡ true
-  pub closed : (i : ℕ) → i < length r.terms.items → among need i ≡ true → Over (among need) (slice_index_or r.terms.items i (Layer 0))
+  pub last : among need (length (terms_of r) - 1) ≡ true
+  pub before : needs r.test ≡ 2 → among need (length (terms_of r) - 2) ≡ true
+  pub closed : (i : ℕ) → i < length (terms_of r) → among need i ≡ true → Over (among need) (slice_index_or (terms_of r) i (Layer 0))
 
 -- the layers that the first n terms name show what is drawn, and all that is drawn settles at m
 pub record Shown (d : Drawing) (m : ℕ) (s : Layers) (ts : List Term) (n : ℕ) : Type 0 where
@@ -75,4 +75,4 @@ pub record Evaluated (d : Drawing) (ts : List Term) (need : List Bool) (n : ℕ)
 
 -- a region of the squares that break the rule
 abbrev pub Breaking : Layers → Rule → Region → Type 0
-Breaking s r v = (d : Drawing) (m : ℕ) → Shown d m s r.terms.items (length r.terms.items) → (x y : ℕ) → covers (vec_items v.bands) x y ≡ breaks d (held_rule r) x y
+Breaking s r v = (d : Drawing) (m : ℕ) → Shown d m s (terms_of r) (length (terms_of r)) → (x y : ℕ) → covers (vec_items v.bands) x y ≡ breaks d (held_rule r) x y

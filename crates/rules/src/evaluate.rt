@@ -2,6 +2,7 @@
 ghost use Rattle.std.specs.Prelude.{◌≡◌, ℕ, true, length, IfOk, vec_len};
 ghost use Rattle.layout.specs.Layout.{Drawing};
 ghost use Rattle.rules.specs.Terms.{Names};
+ghost use Rattle.rules.specs.Tests.{terms_of};
 ghost use Rattle.rules.specs.Values.{Needed, Shown, Evaluated, TermDone, Breaking};
 
 use super::broken::{close, narrow, shallow};
@@ -59,11 +60,11 @@ impl Rule {
         need: &[bool; MAX_REGIONS],
     ) -> Result<Vec<Region>, AllocError>
         requires { Needed self.now need.now }
-        ensures long { IfOk result (λ v. vec_len v ≡ length self.now.terms.items) }
-        ensures values { IfOk result (λ v. (d : Drawing) (m : ℕ) → Shown d m layers.now self.now.terms.items (length self.now.terms.items) → Evaluated d self.now.terms.items need.now (length self.now.terms.items) v.items) }
+        ensures long { IfOk result (λ v. vec_len v ≡ length (terms_of self.now)) }
+        ensures values { IfOk result (λ v. (d : Drawing) (m : ℕ) → Shown d m layers.now (terms_of self.now) (length (terms_of self.now)) → Evaluated d (terms_of self.now) need.now (length (terms_of self.now)) v.items) }
     {
         let mut done = Vec::new(heap);
-        for (n, term) in self.terms.iter().enumerate() {
+        for (n, term) in self.terms().iter().enumerate() {
             let region = evaluate_needed(heap, layers, done.as_slice(), *term, need[n])?;
             done.push(region)?;
         }

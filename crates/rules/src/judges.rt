@@ -3,6 +3,7 @@ ghost use Rattle.std.specs.Prelude.{ℕ, length, IfOk};
 ghost use Rattle.layout.specs.Layout.{Drawing};
 ghost use Rattle.region.specs.Firsts.{FirstOf};
 ghost use Rattle.rules.specs.Rules.{breaks};
+ghost use Rattle.rules.specs.Tests.{terms_of};
 ghost use Rattle.rules.specs.Values.{Shown, held_rule};
 ghost use Rattle.rules.specs.Judged.{LayersMarked, Judges};
 
@@ -24,7 +25,7 @@ impl Rule {
     pub fn mark_layers(&self, wanted: &mut [bool; LAYERS])
         ensures { LayersMarked self.now wanted.old wanted.new }
     {
-        for term in self.terms.iter() {
+        for term in self.terms().iter() {
             if let Term::Layer(layer) = *term {
                 wanted[layer as usize] = true;
             }
@@ -37,7 +38,7 @@ impl Rule {
         heap: Global,
         layers: &Layers,
     ) -> Result<Option<(u64, u64)>, AllocError>
-        ensures { IfOk result (λ o. (d : Drawing) (m : ℕ) → Shown d m layers.now self.now.terms.items (length self.now.terms.items) → FirstOf (breaks d (held_rule self.now)) o) }
+        ensures { IfOk result (λ o. (d : Drawing) (m : ℕ) → Shown d m layers.now (terms_of self.now) (length (terms_of self.now)) → FirstOf (breaks d (held_rule self.now)) o) }
     {
         let region = self.broken(heap, layers)?;
         Ok(region.first())

@@ -28,14 +28,15 @@ impl Rule {
         ensures { Needed self.now result }
     {
         let mut need = [false; MAX_REGIONS];
-        let len = self.terms.len();
+        let terms = self.terms();
+        let len = terms.len();
         need[len - 1] = true;
         if let Test::Inside(_) = self.test {
             need[len - 2] = true;
         }
         for n in (0..len).rev() {
             if need[n] {
-                mark(&mut need, self.terms[n], n);
+                mark(&mut need, terms[n], n);
             }
         }
         need

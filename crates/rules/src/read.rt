@@ -5,7 +5,6 @@ ghost use Rattle.rules.specs.Tests.{Side, Tests, Terms, RulesRead};
 use super::rule::{MAX_REGIONS, Rule, Test};
 use super::term::Term;
 use super::terms::{MAX_NUMBER, read_term, under};
-use arrayvec::ArrayVec;
 use layout::refusal::Refusal;
 
 // A number that may not be 0.
@@ -36,15 +35,15 @@ fn read_test(kind: u64, number: u64, at: usize) -> Result<Test, Refusal>
 }
 
 // The terms of the regions.
-fn read_terms(regions: &[u64], len: usize) -> Result<ArrayVec<Term, MAX_REGIONS>, Refusal>
+fn read_terms(regions: &[u64], len: usize) -> Result<[Term; MAX_REGIONS], Refusal>
     requires len { length regions.now ≡ 3 * len }
     requires few { len ≤ 16 }
     ensures { Terms regions.now len result }
 {
-    let mut terms = ArrayVec::new();
+    let mut terms = [Term::default(); MAX_REGIONS];
     for n in 0..len {
         let term = read_term(n, regions[3 * n], regions[3 * n + 1], regions[3 * n + 2])?;
-        terms.push(term);
+        terms[n] = term;
     }
     Ok(terms)
 }
@@ -61,5 +60,5 @@ pub fn read_rule(regions: &[u64], kind: u64, number: u64) -> Result<Rule, Refusa
     }
     let terms = read_terms(regions, len)?;
     let test = read_test(kind, number, 3 * len)?;
-    Ok(Rule { terms, test })
+    Ok(Rule { terms, len, test })
 }

@@ -5,4 +5,4 @@ use Rattle.rules.specs.Tests.{TermsRead}
 use Rattle.rules.proofs.read.read_terms.Given as goal
 
 abbrev pub invariant-loop-n : goal.invariant-loop-n
-invariant-loop-n l = (length l.terms.items ≡ l.n) × (regions_fault l.regions l.n ≡ None) × TermsRead l.regions l.n l.terms.items
+invariant-loop-n l = (length l.terms ≡ 16) × (regions_fault l.regions l.n ≡ None) × TermsRead l.regions l.n l.terms

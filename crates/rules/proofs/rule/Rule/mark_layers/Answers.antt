@@ -2,6 +2,7 @@
 use Rattle.std.proofs.Common.{◌≡◌, ℕ, ◌<◌, true, length, get_or, set, ap, subst, inl, inr, arith, length-set}
 use Rattle.std.proofs.lemmas.Bool.{cases_eq, cases_lt}
 use Rattle.rules.specs.Terms.{Names}
+use Rattle.rules.specs.Tests.{terms_of}
 use Rattle.rules.specs.Values.{among}
 use Rattle.rules.specs.declared.term.Term.{Term}
 use Rattle.rules.specs.declared.term.Term.TheVariants.{Layer}
@@ -18,15 +19,15 @@ loop-term-init c = (λ i k l e. absurd (omega arith), λ k h. h, c.told-wanted)
 pub loop-term-preserved : goal.loop-term-preserved
 loop-term-preserved c =
     let n = c.loop-term.term-index in
-    let ts = c.deref-term-items.result.now in
+    let ts = c.terms-term-items.result.now in
     let marked = c.loop-term.wanted in
     let long = c.loop-term.invariant.2 in
-    let here : n < length c.args.self.now.terms.items = omega (arith, c.loop-term-test.true, ap length c.deref-term-items.ensures.0) in
+    let here : n < length (terms_of c.args.self.now) = omega (arith, c.loop-term-test.true, ap length c.terms-term-items.ensures.value) in
     elim c.match-term.branch [
       | in-Layer w ↦
           let e : get_or ts n (Layer 0) ≡ Layer w.in-Layer.layer = w.in-Layer.is in
           let k = w.in-Layer.layer in
-          let q = (subst (Names n) (rw c.deref-term-items.ensures.0 at e) (c.args.self.now.sound.names n here)).0 in
+          let q = (subst (Names n) (rw c.terms-term-items.ensures.value at e) (c.args.self.now.sound.names n here)).0 in
           let p : k < length marked = omega arith in
           rw w.wanted-is (
             λ i j l f. elim (cases_eq i n) [
@@ -49,6 +50,6 @@ loop-term-preserved c =
 
 pub returns : goal.returns
 returns c = record {
-  marks = λ i k l e. c.loop-term.invariant.0 i k (omega (arith, c.loop-term-test.false, ap length c.deref-term-items.ensures.0)) (rw c.deref-term-items.ensures.0 e);
+  marks = λ i k l e. c.loop-term.invariant.0 i k (omega (arith, c.loop-term-test.false, ap length c.terms-term-items.ensures.value)) (rw c.terms-term-items.ensures.value e);
   keeps = c.loop-term.invariant.1;
 }
