@@ -16,22 +16,30 @@ impl Layers {
     {
         let mut regions = Vec::new(heap);
         for (layer, want) in wanted.iter().enumerate() {
-            let mut region = None;
+            let mut region = Region::empty(heap);
             if *want {
-                region = Some(Region::from_boxes(heap, boxes.rects, layer as u64)?);
+                region = Region::from_boxes(heap, boxes.rects, layer as u64)?;
             }
             regions.push(region)?;
         }
-        Ok(Layers { regions })
+        let none = Region::empty(heap);
+        Ok(Layers { regions, none })
     }
 
     // A layer's region, without a square where the layer was not swept.
-    pub fn region(&self, heap: Global, layer: u64) -> Result<Region, AllocError>
-        ensures { IfOk result (λ v. (x y : ℕ) → covers v.bands.items x y ≡ shows self.now layer x y) }
+    pub fn at(&self, layer: u64) -> &Region
+        ensures { (x y : ℕ) → covers result.now.bands.items x y ≡ shows self.now layer x y }
     {
         match self.regions.get(layer as usize) {
-            Some(Some(region)) => region.clone(),
-            _ => Ok(Region::empty(heap)),
+            Some(region) => region,
+            None => &self.none,
         }
+    }
+
+    // A copy of it.
+    pub fn region(&self, _heap: Global, layer: u64) -> Result<Region, AllocError>
+        ensures { IfOk result (λ v. (x y : ℕ) → covers v.bands.items x y ≡ shows self.now layer x y) }
+    {
+        self.at(layer).clone()
     }
 }
