@@ -4,10 +4,10 @@ ghost use Rattle.groups.specs.Numbers.{seen, count, Given, Fresh};
 
 use std::alloc::{AllocError, Global};
 
-// The number that each root was given, if it was, and how many were given.
+// The number that each root was given, 0 for none, and how many were given.
 #[derive(Drop)]
 pub struct Numbers {
-    known: Vec<Option<u64>>,
+    known: Vec<u64>,
     given: u64,
 }
 
@@ -16,7 +16,7 @@ impl Numbers {
     pub fn new(heap: Global, n: usize) -> Result<Numbers, AllocError>
         ensures { IfOk result (λ v. Fresh n (seen v) (count v)) }
     {
-        let known = vec![in heap; None; n]?;
+        let known = vec![in heap; 0; n]?;
         Ok(Numbers { known, given: 0 })
     }
 
@@ -26,11 +26,12 @@ impl Numbers {
         requires room { count self.old + 1 < 2 ^ 64 }
         ensures { Given (seen self.old) (count self.old) root (seen self.new) (count self.new) result }
     {
-        if let Some(number) = self.known[root] {
-            return number;
+        let known = self.known[root];
+        if known != 0 {
+            return known;
         }
         self.given += 1;
-        self.known[root] = Some(self.given);
+        self.known[root] = self.given;
         self.given
     }
 }
