@@ -30,6 +30,8 @@ impl<'b, 'p> Mask<'b, 'p> {
 
 /// Numbers spots by nets, in their order: 0 for a spot that is no wire, the number of an earlier spot from which one
 /// can go there, else one more than there were. Looks at the layout first, then at the technology, then at the spots.
+// The search knows which refusal comes first, so that it decides on any early return.
+#[tactic(auto, unfolding(crate::specs::Numberings::nets_refusal))]
 pub fn nets(
     heap: Global,
     layout: &[u64],
