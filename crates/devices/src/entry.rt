@@ -7,6 +7,7 @@ ghost use Rattle.devices.specs.Findings.{Says};
 
 use crate::border::find_borders;
 use crate::crossing::Crossing;
+pub use crate::reading::Found;
 use crate::reading::{Device, read_devices, write_devices};
 use crate::terminal::gather;
 use layout::boxes::Boxes;
@@ -15,8 +16,6 @@ use layout::refusal::{Fault, Refusal};
 use nets::mask::Mask;
 use nets::technology::Technology;
 use std::alloc::{AllocError, Global};
-
-pub use crate::reading::Found;
 
 /// Reads the devices of a mask.
 pub fn read_mask(heap: Global, mask: &Mask<'_, '_>) -> Result<Found<Vec<Device>>, AllocError>

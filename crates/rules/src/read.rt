@@ -2,12 +2,11 @@
 ghost use Rattle.std.specs.Prelude.{◌≡◌, ◌*◌, ◌≤◌, length};
 ghost use Rattle.rules.specs.Tests.{Side, Tests, Terms, RulesRead};
 
+pub use super::rule::MAX_REGIONS;
 use super::rule::{Rule, Test};
 use super::term::Term;
 use super::terms::{MAX_NUMBER, read_term, under};
 use layout::refusal::Refusal;
-
-pub use super::rule::MAX_REGIONS;
 
 // A number that may not be 0.
 fn side(number: u64, place: usize) -> Result<u64, Refusal>
