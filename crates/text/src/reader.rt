@@ -1,7 +1,7 @@
 // Reads the words of a layout text, one after another, into statements.
-ghost use Rattle.std.specs.Prelude.{◌≡◌, map, OnOk};
+ghost use Rattle.std.specs.Prelude.{◌≡◌, OnOk};
 ghost use Rattle.layout.specs.Refusals.{Follows};
-ghost use Rattle.words.specs.Words.{token_of};
+ghost use Rattle.words.specs.WordsLeft.{words_left};
 ghost use Rattle.text.specs.Readings.{start, inside, may_begin, new_name, value_of, closed_by, settled, begin, noted, go_on, accept, read, said_in, started, state_of, Read};
 
 use super::keyword::{Keyword, Slot, keyword_of};
@@ -9,10 +9,11 @@ use super::statement::Said;
 use arrayvec::ArrayVec;
 use layout::refusal::{Fault, Refusal};
 use std::alloc::{AllocError, Global};
+use words::left::Words;
 use words::line::last_line;
 use words::name::Names;
 use words::number::number;
-use words::word::{Marks, Word, split};
+use words::word::Marks;
 
 /// The most words that follow the first of a statement.
 const MOST: usize = 5;
@@ -188,9 +189,9 @@ impl Reader {
     }
 }
 
-/// Reads words that a text was cut into.
-fn read(heap: Global, words: &[Word]) -> Result<Reader, Fault>
-    ensures { Read (read start (map token_of words.now)) result }
+/// Reads the words of a text, one after another: a list of them would take more memory than the text.
+fn read(heap: Global, words: Words<'_>) -> Result<Reader, Fault>
+    ensures { Read (read start (words_left words.entry)) result }
 {
     let mut reader = Reader::new(heap);
     for word in words {
@@ -203,8 +204,7 @@ fn read(heap: Global, words: &[Word]) -> Result<Reader, Fault>
 pub(crate) fn read_statements(heap: Global, text: &[u8]) -> Result<Reader, Fault>
     ensures { Read (said_in text.now) result }
 {
-    let words = split(heap, text, Marks::Braces)?;
-    let reader = read(heap, words.as_slice())?;
+    let reader = read(heap, Words::of(text, Marks::Braces))?;
     if reader.begun.is_some() | reader.inside() {
         return Err(Fault::Refused(Refusal::Text(last_line(text))));
     }

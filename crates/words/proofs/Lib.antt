@@ -3,3 +3,4 @@ pub mod Numbers
 pub mod Names
 pub mod Words
 pub mod Listings
+pub mod WordsLeft

@@ -11,7 +11,7 @@ use Rattle.words.specs.declared.word.Kind.{Kind}
 use Rattle.words.specs.declared.word.Kind.TheVariants.{Newline, Blank, Comment, Mark, Letter}
 use Rattle.words.specs.Words.{Token, kind_of, is_letter, letters, rest_of_line, ended, by_kind, words_from, words_of, token_of, Inside, Cut}
 
-letter_is : (k : Kind) → is_letter k ≡ true → k ≡ Letter
+pub letter_is : (k : Kind) → is_letter k ≡ true → k ≡ Letter
 letter_is Newline e = absurd (false≢true e)
 letter_is Blank e = absurd (false≢true e)
 letter_is Comment e = absurd (false≢true e)
@@ -20,7 +20,7 @@ letter_is Letter e = refl
 
 -- a run of letters
 module _ (m : Marks) where
-  letters-yes : (b : ℕ) (bs : List ℕ) → is_letter (kind_of m b) ≡ true → letters m (b ∷ bs) ≡ b ∷ letters m bs
+  pub letters-yes : (b : ℕ) (bs : List ℕ) → is_letter (kind_of m b) ≡ true → letters m (b ∷ bs) ≡ b ∷ letters m bs
   unfolding letters
   letters-yes b bs e = ap (λ t. cond t (b ∷ letters m bs) []) e
 
@@ -137,118 +137,22 @@ line_taken (b ∷ bs) = take_while-cons (λ b. not (eqb b 10)) b bs ∙ elim (ca
   | inr e ↦ rw e (ap (λ us. b ∷ us) (line_taken bs))
 ]
 
-rest-long : (bs : List ℕ) → length (rest_of_line bs) ≤ length bs
+pub rest-long : (bs : List ℕ) → length (rest_of_line bs) ≤ length bs
 unfolding rest_of_line
 rest-long [] = omega arith
 rest-long (b ∷ bs) = elim (cases_Bool (eqb b 10)) [ inl e ↦ rw e (omega arith) | inr e ↦ rw e (omega (arith, rest-long bs)) ]
 
-letters-short : (m : Marks) (bs : List ℕ) → length (letters m bs) ≤ length bs
+pub letters-short : (m : Marks) (bs : List ℕ) → length (letters m bs) ≤ length bs
 letters-short m bs = omega (arith, ap length (letters-take m bs), length-take (length (letters m bs)) bs)
 
-ended_some : (n p : ℕ) (bs : List ℕ) → 1 ≤ length bs → ended n p bs ≡ record { line = n; from = p; to = p + length bs; bytes = bs } ∷ []
+pub ended_some : (n p : ℕ) (bs : List ℕ) → 1 ≤ length bs → ended n p bs ≡ record { line = n; from = p; to = p + length bs; bytes = bs } ∷ []
 ended_some n p [] h = absurd (omega arith)
 ended_some n p (b ∷ bs) h = refl
 
--- a loop that cuts a text into words: those so far, and those of what is left from a place on
-pub record Cutting (m : Marks) (text : List ℕ) (ws : List Word) (line at : ℕ) (rest : List ℕ) : Type 0 where
-  pub here : at + length rest ≡ length text
-  pub suffix : rest ≡ drop at text
-  pub lines : line ≤ at
-  pub inside : AllByRecursion (Inside text) ws
-  pub same : map token_of ws ++ words_from m line at false [] rest ≡ words_of m text
-
-module _ (m : Marks) (text : List ℕ) where
-  pub cut_all : (ws : List Word) (line at : ℕ) (rest : List ℕ) → Cutting m text ws line at rest → length rest ≡ 0 → Cut m text ws
-  unfolding words_from
-  cut_all ws line at [] c h = record { inside = c.inside; same = sym (append-nil (map token_of ws)) ∙ c.same }
-  cut_all ws line at (b ∷ bs) c h = absurd (omega arith)
-
-module _ (m : Marks) (text : List ℕ) (ws : List Word) (line at : ℕ) (rest : List ℕ) (c : Cutting m text ws line at rest) where
-  -- some bytes on
-  moved : (k line' : ℕ) → k ≤ length rest → line' ≤ at + k → words_from m line at false [] rest ≡ words_from m line' (at + k) false [] (drop k rest) → Cutting m text ws line' (length text - length (drop k rest)) (drop k rest)
-  moved k line' h l e =
-      let z : at + k ≡ length text - length (drop k rest) = omega (arith, c.here, length-drop k rest) in
-      subst (λ (p : ℕ). Cutting m text ws line' p (drop k rest)) z (record {
-        here = omega (arith, c.here, length-drop k rest);
-        suffix = ap (drop k) c.suffix ∙ drop-drop k at text;
-        lines = l;
-        inside = c.inside;
-        same = ap (λ ts. map token_of ws ++ ts) (sym e) ∙ c.same;
-      })
-
-  -- a word of some bytes
-  cut_off : (k : ℕ) (w : Word) → k ≤ length rest → w.bytes.now ≡ take k rest → w.start ≡ at → w.line ≡ line → words_from m line at false [] rest ≡ record { line = line; from = at; to = at + k; bytes = take k rest } ∷ words_from m line (at + k) false [] (drop k rest) → Cutting m text (ws ++ w ∷ []) line (length text - length (drop k rest)) (drop k rest)
-  cut_off k w h spelled starts lined e =
-      let z : at + k ≡ length text - length (drop k rest) = omega (arith, c.here, length-drop k rest) in
-      let long : length (take k rest) ≡ k = omega (arith, length-take k rest) in
-      let count : length w.bytes.now ≡ k = ap length spelled ∙ long in
-      let back : at + k - at ≡ k = omega arith in
-      let token : token_of w ≡ record { line = line; from = at; to = at + k; bytes = take k rest } =
-      ap (λ n. record { line = n; from = w.start; to = w.start + length w.bytes.now; bytes = w.bytes.now }) lined
-      ∙ ap (λ p. record { line = line; from = p; to = p + length w.bytes.now; bytes = w.bytes.now }) starts
-      ∙ ap (λ n. record { line = line; from = at; to = at + n; bytes = w.bytes.now }) count
-      ∙ ap (λ us. record { line = line; from = at; to = at + k; bytes = us }) spelled
-      in
-      subst (λ (p : ℕ). Cutting m text (ws ++ w ∷ []) line p (drop k rest)) z (record {
-        here = omega (arith, c.here, length-drop k rest);
-        suffix = ap (drop k) c.suffix ∙ drop-drop k at text;
-        lines = omega (arith, c.lines);
-        inside = All-push (Inside text) ws w c.inside (
-          omega (arith, c.here),
-          spelled ∙ ap (take k) c.suffix ∙ ap (λ n. take n (drop at text)) (sym back) ∙ ap (λ n. between at (at + n) text) (sym count) ∙ ap (λ p. between p (p + length w.bytes.now) text) (sym starts),
-        );
-        same =
-            ap (λ ts. ts ++ words_from m line (at + k) false [] (drop k rest)) (map_push token_of ws w)
-            ∙ append_assoc (map token_of ws) (token_of w ∷ []) (words_from m line (at + k) false [] (drop k rest))
-            ∙ ap (λ u. map token_of ws ++ (u ∷ words_from m line (at + k) false [] (drop k rest))) token
-            ∙ ap (λ ts. map token_of ws ++ ts) (sym e) ∙ c.same;
-      })
-
--- what a byte does, by its kind
-module _ (m : Marks) (text : List ℕ) (ws : List Word) (line at : ℕ) (rest : List ℕ) (c : Cutting m text ws line at rest) (b : ℕ) (bs : List ℕ) (is : rest ≡ b ∷ bs) where
-  here : Cutting m text ws line at (b ∷ bs)
-  here = subst (Cutting m text ws line at) is c
-
-  pub cut-newline : Newline ≡ kind_of m b → Cutting m text ws (line + 1) (length text - length bs) bs
-  cut-newline e =
-      let z : suc line ≡ line + 1 = omega arith in
-      moved m text ws line at (b ∷ bs) here 1 (line + 1) (omega arith) (omega (arith, c.lines)) (at-newline m line at b bs (sym e) ∙ ap (λ n. words_from m n (at + 1) false [] bs) z)
-
-  pub cut-blank : Blank ≡ kind_of m b → Cutting m text ws line (length text - length bs) bs
-  cut-blank e = moved m text ws line at (b ∷ bs) here 1 line (omega arith) (omega (arith, c.lines)) (at-blank m line at b bs (sym e))
-
-  -- a comment has a byte at least
-  comment-long : Comment ≡ kind_of m b → length (take_while (λ b. not (eqb b 10)) rest) ≡ suc (length (rest_of_line bs))
-  unfolding rest_of_line
-  comment-long e = ap (λ us. length (take_while (λ b. not (eqb b 10)) us)) is ∙ ap length (line_taken (b ∷ bs)) ∙ elim (cases_Bool (eqb b 10)) [
-    | inl t ↦ let k : kind_of m b ≡ Newline = rw t in let z : Comment ≡ Newline = e ∙ k in let y : ◌≡◌ {A = ℕ} 0 1 = cc in absurd (omega arith)
-    | inr t ↦ rw t
-  ]
-
-  pub cut-comment : Comment ≡ kind_of m b → (k : ℕ) → k ≡ length (take_while (λ b. not (eqb b 10)) rest) → (left : List ℕ) → left ≡ drop k rest → Cutting m text ws line (length text - length left) left
-  cut-comment e k h left l =
-      let n = length (rest_of_line bs) in
-      let z : at + 1 + n ≡ at + suc n = omega arith in
-      subst (λ (us : List ℕ). Cutting m text ws line (length text - length us) us) (sym (l ∙ ap (drop k) is ∙ ap (λ j. drop j (b ∷ bs)) (h ∙ comment-long e)))
-      (moved m text ws line at (b ∷ bs) here (suc n) line (omega (arith, rest-long bs)) (omega (arith, c.lines))
-      (at-comment m line at b bs (sym e) ∙ comment-ended m line (at + 1) bs ∙ ap (λ q. words_from m line q false [] (drop n bs)) z))
-
-  module _ (w : Word) (front left : List ℕ) (spelled : w.bytes.now ≡ front) (starts : w.start ≡ at) (lined : w.line ≡ line) where
-    pub cut-mark : Mark ≡ kind_of m b → front ≡ take 1 rest → left ≡ drop 1 rest → Cutting m text (ws ++ w ∷ []) line (length text - length left) left
-    cut-mark e f l =
-        subst (λ (us : List ℕ). Cutting m text (ws ++ w ∷ []) line (length text - length us) us) (sym (l ∙ ap (drop 1) is))
-        (cut_off m text ws line at (b ∷ bs) here 1 w (omega arith) (spelled ∙ f ∙ ap (take 1) is) starts lined (at_mark m line at b bs (sym e)))
-
-    pub cut-letters : Letter ≡ kind_of m b → (k : ℕ) → k ≡ length (take_while (λ b. is_letter (kind_of m b)) rest) → front ≡ take k rest → left ≡ drop k rest → Cutting m text (ws ++ w ∷ []) line (length text - length left) left
-    cut-letters e k h f l =
-        let ls = letters m (b ∷ bs) in
-        let long : k ≡ length ls = h ∙ ap length (letters-taken m rest) ∙ ap (λ us. length (letters m us)) is in
-        let some : 1 ≤ length ls = omega (arith, ap length (letters-yes m b bs (sym (ap is_letter e)))) in
-        let cut : words_from m line at false [] (b ∷ bs) ≡ record { line = line; from = at; to = at + length ls; bytes = take (length ls) (b ∷ bs) } ∷ words_from m line (at + length ls) false [] (drop (length ls) (b ∷ bs)) =
-        word-begun m line at [] (b ∷ bs)
-        ∙ word-ended m line at ls (drop (length ls) (b ∷ bs)) (letters-done m (b ∷ bs))
-        ∙ ap (λ ts. ts ++ words_from m line (at + length ls) false [] (drop (length ls) (b ∷ bs))) (ended_some line at ls some)
-        ∙ ap (λ us. record { line = line; from = at; to = at + length ls; bytes = us } ∷ words_from m line (at + length ls) false [] (drop (length ls) (b ∷ bs))) (sym (letters-take m (b ∷ bs)))
-        in
-        subst (λ (us : List ℕ). Cutting m text (ws ++ w ∷ []) line (length text - length us) us) (sym (l ∙ ap (drop k) is ∙ ap (λ j. drop j (b ∷ bs)) long))
-        (cut_off m text ws line at (b ∷ bs) here (length ls) w (letters-short m (b ∷ bs)) (spelled ∙ f ∙ ap (take k) is ∙ ap (λ j. take j (b ∷ bs)) long) starts lined cut)
+-- a comment has a byte at least
+pub comment-long : (m : Marks) (b : ℕ) (bs rest : List ℕ) → rest ≡ b ∷ bs → Comment ≡ kind_of m b → length (take_while (λ b. not (eqb b 10)) rest) ≡ suc (length (rest_of_line bs))
+unfolding rest_of_line
+comment-long m b bs rest is e = ap (λ us. length (take_while (λ b. not (eqb b 10)) us)) is ∙ ap length (line_taken (b ∷ bs)) ∙ elim (cases_Bool (eqb b 10)) [
+  | inl t ↦ let k : kind_of m b ≡ Newline = rw t in let z : Comment ≡ Newline = e ∙ k in let y : ◌≡◌ {A = ℕ} 0 1 = cc in absurd (omega arith)
+  | inr t ↦ rw t
+]

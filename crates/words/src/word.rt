@@ -3,7 +3,7 @@ ghost use Rattle.std.specs.Prelude.{◌≡◌, length, IfOk};
 ghost use Rattle.std.specs.List.{take_while};
 ghost use Rattle.words.specs.Words.{is_mark, is_letter, kind_of, Cut};
 
-use crate::line::line_length;
+use crate::left::Words;
 use std::alloc::{AllocError, Global};
 
 /// A word: its bytes, the place of the first of them in the text, and its line, counted from 0.
@@ -33,7 +33,7 @@ pub(crate) enum Kind {
 }
 
 impl Kind {
-    fn is_letter(self) -> bool
+    pub(crate) fn is_letter(self) -> bool
         ensures { result ≡ is_letter self }
     {
         matches!(self, Kind::Letter)
@@ -50,7 +50,7 @@ fn marked(marks: Marks, byte: u8) -> bool
     }
 }
 
-fn kind_of(marks: Marks, byte: u8) -> Kind
+pub(crate) fn kind_of(marks: Marks, byte: u8) -> Kind
     ensures { result ≡ kind_of marks byte }
 {
     match byte {
@@ -63,7 +63,7 @@ fn kind_of(marks: Marks, byte: u8) -> Kind
 }
 
 /// How many letters a text begins with.
-fn letters_count(text: &[u8], marks: Marks) -> usize
+pub(crate) fn letters_count(text: &[u8], marks: Marks) -> usize
     ensures { result ≡ length (take_while (λ b. is_letter (kind_of marks b)) text.now) }
 {
     text.iter()
@@ -76,31 +76,8 @@ pub fn split<'a>(heap: Global, text: &'a [u8], marks: Marks) -> Result<Vec<Word<
     ensures { IfOk result (λ v. Cut marks text.now v.items) }
 {
     let mut words = Vec::new(heap);
-    let mut line = 0;
-    let mut rest = text;
-    while let Some((byte, after)) = rest.split_first() {
-        let start = text.len() - rest.len();
-        match kind_of(marks, *byte) {
-            Kind::Newline => {
-                line += 1;
-                rest = after;
-            }
-            Kind::Blank => rest = after,
-            Kind::Comment => {
-                let (_, after) = rest.split_at(line_length(rest));
-                rest = after;
-            }
-            Kind::Mark => {
-                let (bytes, after) = rest.split_at(1);
-                words.push(Word { bytes, start, line })?;
-                rest = after;
-            }
-            Kind::Letter => {
-                let (bytes, after) = rest.split_at(letters_count(rest, marks));
-                words.push(Word { bytes, start, line })?;
-                rest = after;
-            }
-        }
+    for word in Words::of(text, marks) {
+        words.push(word)?;
     }
     Ok(words)
 }

@@ -1,8 +1,9 @@
--- What `read` keeps true as it goes round, and why it ends.
-use Rattle.std.proofs.Common.{◌≡◌, map, drop}
-use Rattle.words.specs.Words.{token_of}
+-- proofs/reader/read/Invariants.antt
+-- What `read` keeps true as it goes round.
+use Rattle.std.proofs.Common.{◌≡◌}
+use Rattle.words.specs.WordsLeft.{words_left}
 use Rattle.text.specs.Readings.{start, read, state_of}
 use Rattle.text.proofs.reader.read.Given as goal
 
 abbrev pub invariant-loop-word : goal.invariant-loop-word
-invariant-loop-word l = read (state_of l.reader) (map token_of (drop l.word-index l.words)) ≡ read start (map token_of l.words)
+invariant-loop-word l = read (state_of l.reader) (words_left l.word-iterator) ≡ read start (words_left l.fn.words)
