@@ -35,14 +35,10 @@ pub fn pass<T: Starts>(list: &[T], at: u64) -> (&[T], &[T])
     ensures here { result.0.now ≡ starting T.start_of at list.now }
     ensures rest { result.1.now ≡ past T.start_of at list.now }
 {
-    match list {
-        [first, ..] => {
-            if first.start() == at {
-                list.split_at(1)
-            } else {
-                (&[], list)
-            }
-        }
-        [] => (&[], list),
-    }
+    // Counted and then cut off, with no branch: whether a list begins there is hard to foresee.
+    let count = match list {
+        [first, ..] => usize::from(first.start() == at),
+        [] => 0,
+    };
+    list.split_at(count)
 }
