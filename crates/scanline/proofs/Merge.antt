@@ -4,7 +4,7 @@ use Rattle.std.proofs.lemmas.Bool.{cases_lt, cases_eq, eq-eqb, ne_eqb, le-leb, l
 use Rattle.scanline.specs.declared.Op.{Op}
 use Rattle.scanline.specs.declared.Op.TheVariants.{And, Or, Without, Xor}
 use Rattle.scanline.specs.Lines.{differ, inside, rises, Sorted, applied, Combined}
-use Rattle.scanline.specs.Starts.{first_start, starting, past as past_of}
+use Rattle.scanline.specs.Starts.{first_start, begins, past as past_of}
 
 -- the first edge of either line
 abbrev pub first : List ℕ → List ℕ → Option ℕ
@@ -12,15 +12,10 @@ first = first_start (λ e. e)
 
 -- whether the line turns at e, which comes before its other edges, and what is left of it past e
 abbrev pub turns : ℕ → List ℕ → Bool
-turns e [] = false
-turns e (f ∷ fs) = eqb f e
+turns = begins (λ e. e)
 
 abbrev pub past : ℕ → List ℕ → List ℕ
 past = past_of (λ e. e)
-
-pub turns_here : (e : ℕ) (es here : List ℕ) (b : Bool) → here ≡ starting (λ f. f) e es → b ≡ eqb (length here) 0 → not b ≡ turns e es
-turns_here e [] here b h k = ap not (k ∙ ap (λ u. eqb (length u) 0) h)
-turns_here e (f ∷ fs) here b h k = ⊎_elim (λ s. ap not (k ∙ ap (λ u. eqb (length u) 0) h) ∙ rw (eq-eqb f e s)) (λ n. ap not (k ∙ ap (λ u. eqb (length u) 0) h) ∙ rw (ne_eqb f e n)) (cases_eq f e)
 
 -- differ
 

@@ -4,7 +4,7 @@ ghost use Rattle.scanline.specs.Lines.{Combined};
 
 use super::Op;
 use super::lines::Line;
-use super::starts::{first_start, pass};
+use super::starts::{begins, first_start, pass};
 use std::alloc::{AllocError, Global};
 
 impl Line {
@@ -18,12 +18,10 @@ impl Line {
         let mut in_b = false;
         let mut within = false;
         while let Some(edge) = first_start(a, b) {
-            let (here_a, rest_a) = pass(a, edge);
-            let (here_b, rest_b) = pass(b, edge);
-            a = rest_a;
-            b = rest_b;
-            in_a = in_a != !here_a.is_empty();
-            in_b = in_b != !here_b.is_empty();
+            in_a = in_a != begins(a, edge);
+            in_b = in_b != begins(b, edge);
+            a = pass(a, edge).1;
+            b = pass(b, edge).1;
             let next = op.apply(in_a, in_b);
             if next != within {
                 edges.push(edge)?;

@@ -1,6 +1,6 @@
 // Lists of what begins at places, one after another: the edges of a line, the bands of a region.
 ghost use Rattle.std.specs.Prelude.{◌≡◌, ℕ};
-ghost use Rattle.scanline.specs.Starts.{first_start, past, starting};
+ghost use Rattle.scanline.specs.Starts.{first_start, begins, past, starting};
 
 /// What begins at a place.
 pub trait Starts {
@@ -30,15 +30,21 @@ pub fn first_start<T: Starts>(a: &[T], b: &[T]) -> Option<u64>
     }
 }
 
-/// Goes past the first of a list where it begins at the place: what does, and what is left.
+/// Whether the first of a list begins at the place.
+pub fn begins<T: Starts>(list: &[T], at: u64) -> bool
+    ensures { result ≡ begins T.start_of at list.now }
+{
+    match list {
+        [first, ..] => first.start() == at,
+        [] => false,
+    }
+}
+
+/// Goes past the first of a list where it begins at the place: what does, and what is left. Cut off with no branch, since
+/// whether it begins there is hard to foresee.
 pub fn pass<T: Starts>(list: &[T], at: u64) -> (&[T], &[T])
     ensures here { result.0.now ≡ starting T.start_of at list.now }
     ensures rest { result.1.now ≡ past T.start_of at list.now }
 {
-    // Counted and then cut off, with no branch: whether a list begins there is hard to foresee.
-    let count = match list {
-        [first, ..] => usize::from(first.start() == at),
-        [] => 0,
-    };
-    list.split_at(count)
+    list.split_at(usize::from(begins(list, at)))
 }

@@ -1,6 +1,6 @@
 -- What `combine` needs beyond what the search finds.
 use Rattle.std.proofs.Common.{sym}
-use Rattle.scanline.proofs.Merge.{start, finish, kept, pushed, same, first-none, first-less, turns_here}
+use Rattle.scanline.proofs.Merge.{start, finish, kept, pushed, same, first-none, first-less}
 use Rattle.scanline.proofs.lines.Line.combine.Goals as goal
 
 pub loop-edge-init : goal.loop-edge-init
@@ -12,10 +12,8 @@ loop-edge-smaller-then-next-within c =
 
 pub loop-edge-preserved-then-next-within : goal.loop-edge-preserved-then-next-within
 loop-edge-preserved-then-next-within c =
-    let a = turns_here c.in-Some.edge c.loop-edge.a.now c.pass.result.0.now c.is_empty.result c.pass.ensures.here c.is_empty.ensures in
-    let b = turns_here c.in-Some.edge c.loop-edge.b.now c.pass-in-Some.result.0.now c.is_empty-in-Some.result c.pass-in-Some.ensures.here c.is_empty-in-Some.ensures in
-    simp (c.in_ok-push.ensures.items, c.apply-next.ensures, c.pass.ensures.rest, c.pass-in-Some.ensures.rest, a, b)
-    (pushed _ _ _ _ _ _ _ _ _ c.loop-edge.invariant c.in-Some.edge (sym c.in-Some.ensures) (rw (c.apply-next.ensures, a, b) at c.if-next-within.true))
+    simp (c.in_ok-push.ensures.items, c.apply-next.ensures, c.pass.ensures.rest, c.pass-in-Some.ensures.rest, c.begins-in_a.ensures, c.begins-in_b.ensures)
+    (pushed _ _ _ _ _ _ _ _ _ c.loop-edge.invariant c.in-Some.edge (sym c.in-Some.ensures) (rw (c.apply-next.ensures, c.begins-in_a.ensures, c.begins-in_b.ensures) at c.if-next-within.true))
 
 pub loop-edge-smaller : goal.loop-edge-smaller
 loop-edge-smaller c =
@@ -23,10 +21,8 @@ loop-edge-smaller c =
 
 pub loop-edge-preserved : goal.loop-edge-preserved
 loop-edge-preserved c =
-    let a = turns_here c.in-Some.edge c.loop-edge.a.now c.pass.result.0.now c.is_empty.result c.pass.ensures.here c.is_empty.ensures in
-    let b = turns_here c.in-Some.edge c.loop-edge.b.now c.pass-in-Some.result.0.now c.is_empty-in-Some.result c.pass-in-Some.ensures.here c.is_empty-in-Some.ensures in
-    let s = rw (c.apply-next.ensures, a, b) at (same c.apply-next.result c.loop-edge.within c.if-next-within.false) in
-    rw (c.pass.ensures.rest, c.pass-in-Some.ensures.rest, a, b, ← s)
+    let s = rw (c.apply-next.ensures, c.begins-in_a.ensures, c.begins-in_b.ensures) at (same c.apply-next.result c.loop-edge.within c.if-next-within.false) in
+    rw (c.pass.ensures.rest, c.pass-in-Some.ensures.rest, c.begins-in_a.ensures, c.begins-in_b.ensures, ← s)
     (kept _ _ _ _ _ _ _ _ _ c.loop-edge.invariant c.in-Some.edge (sym c.in-Some.ensures) s)
 
 pub invariant_of-result : goal.invariant_of-result
