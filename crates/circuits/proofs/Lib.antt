@@ -2,6 +2,7 @@
 pub mod Sums
 mod Tables
 pub mod Devices
+mod Tallies
 pub mod Isos
 pub mod Laws
 mod Checked

@@ -8,3 +8,4 @@ pub mod Searches
 pub mod Tasks
 pub mod Colours
 pub mod Comparisons
+pub mod Memos

@@ -6,13 +6,15 @@ ghost use Rattle.circuits.specs.Comparisons.{ComparisonSays};
 pub mod colour;
 pub mod component;
 pub mod law;
+pub mod memo;
 pub mod netlist;
 pub mod pairing;
 pub mod search;
 mod table;
+mod tally;
 
 use layout::refusal::Refusal;
-use netlist::{Circuit, is_circuit, likes, read};
+use netlist::{Circuit, is_circuit, read};
 use pairing::{Pairing, own_partners};
 use search::pairable;
 
@@ -44,9 +46,8 @@ pub fn compare(
         return Err(Refusal::Circuit(2));
     }
     let (room_a, room_b) = (read(a), read(b));
-    let (likes_a, likes_b) = (likes(&room_a[..a.len() / 3]), likes(&room_b[..b.len() / 3]));
-    let first = Circuit::new(nets_a, a, &room_a, &likes_a);
-    let second = Circuit::new(nets_b, b, &room_b, &likes_b);
+    let first = Circuit::new(nets_a, a, &room_a);
+    let second = Circuit::new(nets_b, b, &room_b);
     let own = own_partners(named as usize);
     if pairable(first, second, Pairing { to: own, back: own }) {
         Ok(Comparison::Equal)

@@ -12,7 +12,7 @@ const MAX_DEVICES: usize = 256;
 const MAX_NETS: u64 = 256;
 
 /// A device, by its nets: the gate's, and those of its two ends.
-#[derive(Clone, Copy)]
+#[derive(Clone, Copy, PartialEq, Eq)]
 pub struct Device {
     pub gate: u8,
     pub one: u8,
@@ -84,9 +84,15 @@ pub fn read(numbers: &[u64]) -> [Device; 256]
     table(|place| read_device(numbers, place))
 }
 
+/// The place of a device that is like this one.
+pub(crate) fn place(devices: &[Device], device: Device) -> Option<usize>
+    ensures { MatchOption result ((i : ℕ) → i < length devices.now → fits (device_at devices.now i) device ≡ false) (λ i. (i < length devices.now) × (fits (device_at devices.now i) device ≡ true)) }
+{
+    devices.iter().position(|other| other.fits(device))
+}
+
 /// How many devices are like this one: the same gate, and its ends in either order.
-fn count(devices: &[Device], device: Device) -> usize
-    requires { length devices.now ≤ 256 }
+pub fn count(devices: &[Device], device: Device) -> usize
     ensures { result ≡ has devices.now device }
 {
     devices
@@ -95,64 +101,27 @@ fn count(devices: &[Device], device: Device) -> usize
         .sum()
 }
 
-/// How many devices are like each one, counted once for the whole search.
-pub(crate) fn likes(devices: &[Device]) -> [usize; 256]
-    requires { length devices.now ≤ 256 }
-    ensures { (i : ℕ) → i < length devices.now → slice_index result i ≡ has devices.now (device_at devices.now i) }
-{
-    table(|place| match devices.get(usize::from(place)) {
-        Some(device) => count(devices, *device),
-        None => 0,
-    })
-}
-
-/// A circuit that is checked: at most 256 devices over 1 to 256 nets, and how many are like each.
+/// A circuit that is checked: at most 256 devices over 1 to 256 nets.
 #[derive(Clone, Copy)]
 pub struct Circuit<'a> {
     pub nets: usize,
     pub devices: &'a [Device],
-    pub likes: &'a [usize; 256],
     ghost some: { nets ≤ 256 },
     ghost few: { length devices.now ≤ 256 },
     ghost low: { (i : ℕ) → i < length devices.now → Below nets (device_at devices.now i) },
-    ghost counted: { (i : ℕ) → i < length devices.now → slice_index likes.now i ≡ has devices.now (device_at devices.now i) },
 }
 
 impl<'a> Circuit<'a> {
-    /// The circuit that numbers say, where they say one, its devices have been read, and those like each counted.
-    pub(crate) fn new(
-        nets: u64,
-        numbers: &[u64],
-        room: &'a [Device; 256],
-        likes: &'a [usize; 256],
-    ) -> Circuit<'a>
+    /// The circuit that numbers say, where they say one and its devices have been read.
+    pub(crate) fn new(nets: u64, numbers: &[u64], room: &'a [Device; 256]) -> Circuit<'a>
         requires circuit { circuit_ok nets numbers.now ≡ true }
         requires read { (i : ℕ) → i < 256 → slice_index_or room.now i none ≡ slice_index_or (devices_in numbers.now) i none }
-        requires counted { (i : ℕ) → i < length (devices_in numbers.now) → slice_index likes.now i ≡ has (devices_in numbers.now) (device_at (devices_in numbers.now) i) }
         ensures nets { result.nets ≡ nets }
         ensures devices { result.devices.now ≡ devices_in numbers.now }
     {
         Circuit {
             nets: nets as usize,
             devices: &room[..numbers.len() / 3],
-            likes,
-        }
-    }
-
-    /// The place of a device that is like this one.
-    fn place(&self, device: Device) -> Option<usize>
-        ensures { MatchOption result ((i : ℕ) → i < length self.now.devices.now → fits (device_at self.now.devices.now i) device ≡ false) (λ i. (i < length self.now.devices.now) × (fits (device_at self.now.devices.now i) device ≡ true)) }
-    {
-        self.devices.iter().position(|other| other.fits(device))
-    }
-
-    /// How many devices have this one's gate and its ends, in either order.
-    pub fn count(&self, device: Device) -> usize
-        ensures { result ≡ has self.now.devices.now device }
-    {
-        match self.place(device) {
-            Some(place) => self.likes[place],
-            None => 0,
         }
     }
 }

@@ -1,11 +1,9 @@
 -- Why compare does what its contract says.
-use Rattle.std.proofs.Common.{◌≡◌, ℕ, ◌<◌, ◌≤◌, length, get_or, sym, refl, ◌∙◌, subst, inl, inr, arith, rules}
-use Rattle.std.proofs.lemmas.List.{length-take-le}
-use Rattle.circuits.specs.Netlists.{has, device_at}
+use Rattle.std.proofs.Common.{◌≤◌, sym, refl, ◌∙◌, inl, inr, arith}
 use Rattle.std.proofs.lemmas.Bool.{le-leb, and_from}
 use Rattle.circuits.specs.Comparisons.{ComparisonSays}
 use Rattle.circuits.specs.Pairings.{Missing, Pairable}
-use Rattle.circuits.proofs.Comparisons.{as_given, ok_sound, room_is, ok_byte, ok_netlist, names-not, same_from, not_same}
+use Rattle.circuits.proofs.Comparisons.{as_given, ok_byte, ok_netlist, names-not, same_from, not_same}
 use Rattle.circuits.proofs.compare.Goals as goal
 
 pub returns-then-not-is_circuit : goal.returns-then-not-is_circuit
@@ -32,38 +30,6 @@ read-room_a-requires c = ok_byte _ _ (sym c.is_circuit.ensures ∙ c.if-not-is_c
 
 pub read-room_b-requires : goal.read-room_b-requires
 read-room_b-requires c = ok_byte _ _ (sym c.is_circuit-2.ensures ∙ c.if-not-is_circuit-2.false)
-
-pub slice_bounds-room_a-end : goal.slice_bounds-room_a-end
-slice_bounds-room_a-end c =
-    let long : length c.read-room_a.result ≡ 256 = search rules in
-    omega (arith, long, (ok_sound _ _ (sym c.is_circuit.ensures ∙ c.if-not-is_circuit.false)).few)
-
-pub slice_bounds-likes-end : goal.slice_bounds-likes-end
-slice_bounds-likes-end c =
-    let long : length c.read-room_a.result ≡ 256 = search rules in
-    sym (length-take-le _ c.read-room_a.result (omega (arith, long, (ok_sound _ _ (sym c.is_circuit.ensures ∙ c.if-not-is_circuit.false)).few)))
-
-pub slice_bounds-room_b-end : goal.slice_bounds-room_b-end
-slice_bounds-room_b-end c =
-    let long : length c.read-room_b.result ≡ 256 = search rules in
-    omega (arith, long, (ok_sound _ _ (sym c.is_circuit-2.ensures ∙ c.if-not-is_circuit-2.false)).few)
-
-pub slice_bounds-likes-end-2 : goal.slice_bounds-likes-end-2
-slice_bounds-likes-end-2 c =
-    let long : length c.read-room_b.result ≡ 256 = search rules in
-    sym (length-take-le _ c.read-room_b.result (omega (arith, long, (ok_sound _ _ (sym c.is_circuit-2.ensures ∙ c.if-not-is_circuit-2.false)).few)))
-
-pub new-first-requires-clause-counted : goal.new-first-requires-clause-counted
-new-first-requires-clause-counted c =
-    let long : length c.read-room_a.result ≡ 256 = search rules in
-    let s = ok_sound _ _ (sym c.is_circuit.ensures ∙ c.if-not-is_circuit.false) in
-    subst (λ vs. (i : ℕ) → i < length vs → get_or c.likes-likes_a.result i 0 ≡ has vs (device_at vs i)) (room_is _ _ long s.few c.read-room_a.ensures) c.likes-likes_a.ensures
-
-pub new-second-requires-clause-counted : goal.new-second-requires-clause-counted
-new-second-requires-clause-counted c =
-    let long : length c.read-room_b.result ≡ 256 = search rules in
-    let s = ok_sound _ _ (sym c.is_circuit-2.ensures ∙ c.if-not-is_circuit-2.false) in
-    subst (λ vs. (i : ℕ) → i < length vs → get_or c.likes-likes_b.result i 0 ≡ has vs (device_at vs i)) (room_is _ _ long s.few c.read-room_b.ensures) c.likes-likes_b.ensures
 
 pub returns-then-pairable : goal.returns-then-pairable
 unfolding ComparisonSays

@@ -1,6 +1,6 @@
 -- Why new does what its contract says.
-use Rattle.std.proofs.Common.{◌≡◌, ℕ, ◌<◌, length, get_or, sym, ap, subst, arith, rules}
-use Rattle.circuits.specs.Netlists.{Below, device_at, has}
+use Rattle.std.proofs.Common.{◌≡◌, ℕ, ◌<◌, length, sym, ap, subst, arith, rules}
+use Rattle.circuits.specs.Netlists.{Below, device_at}
 use Rattle.circuits.proofs.Comparisons.{ok_sound, ok_netlist, room_is}
 use Rattle.circuits.proofs.netlist.Circuit.new.Goals as goal
 
@@ -16,7 +16,6 @@ invariant_of-result c =
       some = n.some;
       few = omega (arith, ap length e, n.few);
       low = subst (λ vs. (i : ℕ) → i < length vs → Below c.args.nets (device_at vs i)) (sym e) n.nets;
-      counted = subst (λ vs. (i : ℕ) → i < length vs → get_or c.args.likes.now i 0 ≡ has vs (device_at vs i)) (sym e) c.requires.counted;
     }
 
 pub returns-clause-devices : goal.returns-clause-devices
