@@ -13,5 +13,6 @@ pub mod Reaches
 pub mod Searches
 pub mod Automorphisms
 pub mod Comparisons
+mod Rooms
 pub mod Colours
 pub mod Deciding

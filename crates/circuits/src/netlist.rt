@@ -1,9 +1,7 @@
 // Circuits: devices over nets, as they are read from numbers in threes, the gate first.
-ghost use Rattle.std.specs.Prelude.{◌≡◌, ℕ, ◌<◌, ◌≤◌, true, false, Decides, MatchOption, length, slice_index, slice_index_or};
+ghost use Rattle.std.specs.Prelude.{◌≡◌, ℕ, ◌/◌, ◌<◌, ◌≤◌, true, false, Decides, MatchOption, length, slice_index, slice_index_or};
 ghost use Rattle.circuits.specs.Netlists.{has, fits, Below, device_at, none, devices_in, circuit_ok};
 ghost use Rattle.circuits.specs.Components.{On};
-
-use super::table::table;
 
 /// The most devices that a circuit has.
 const MAX_DEVICES: usize = 256;
@@ -56,19 +54,13 @@ pub fn is_circuit(nets: u64, numbers: &[u64]) -> bool
     numbers.iter().all(|net| *net < nets)
 }
 
-/// The device at a place of a circuit in numbers; behind the last, one of no meaning.
-fn read_device(numbers: &[u64], place: u8) -> Device
-    requires { (k : ℕ) → k < length numbers.now → slice_index numbers.now k ≤ 255 }
-    ensures { result ≡ slice_index_or (devices_in numbers.now) place none }
+/// The device at a place of a circuit in numbers.
+fn read_device(numbers: &[u64], place: usize) -> Device
+    requires within { place < length numbers.now / 3 }
+    requires bytes { (k : ℕ) → k < length numbers.now → slice_index numbers.now k ≤ 255 }
+    ensures { result ≡ device_at (devices_in numbers.now) place }
 {
-    let first = 3 * usize::from(place);
-    if first + 2 >= numbers.len() {
-        return Device {
-            gate: 0,
-            one: 0,
-            other: 0,
-        };
-    }
+    let first = 3 * place;
     Device {
         gate: numbers[first] as u8,
         one: numbers[first + 1] as u8,
@@ -76,12 +68,24 @@ fn read_device(numbers: &[u64], place: u8) -> Device
     }
 }
 
+/// What stands in a room behind the devices of a circuit.
+const NO_DEVICE: Device = Device {
+    gate: 0,
+    one: 0,
+    other: 0,
+};
+
 /// The devices of a circuit in numbers, small enough that the search goes over them fast.
 pub fn read(numbers: &[u64]) -> [Device; 256]
     requires { (k : ℕ) → k < length numbers.now → slice_index numbers.now k ≤ 255 }
     ensures { (i : ℕ) → i < 256 → slice_index_or result i none ≡ slice_index_or (devices_in numbers.now) i none }
 {
-    table(|place| read_device(numbers, place))
+    let mut room = [NO_DEVICE; MAX_DEVICES];
+    // No more than there are: most circuits are small.
+    for place in 0..MAX_DEVICES.min(numbers.len() / 3) {
+        room[place] = read_device(numbers, place);
+    }
+    room
 }
 
 /// The place of a device that is like this one.
