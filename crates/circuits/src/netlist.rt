@@ -81,7 +81,7 @@ pub fn read(numbers: &[u64]) -> [Device; 256]
     ensures { (i : ℕ) → i < 256 → slice_index_or result i none ≡ slice_index_or (devices_in numbers.now) i none }
 {
     let mut room = [NO_DEVICE; MAX_DEVICES];
-    // No more than there are: most circuits are small.
+    // Only those that there are, so that a small circuit is read fast.
     for place in 0..MAX_DEVICES.min(numbers.len() / 3) {
         room[place] = read_device(numbers, place);
     }
