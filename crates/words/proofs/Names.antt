@@ -103,10 +103,10 @@ module _ {S : Type 0} (ps : List ℕ) (old new : IndexMap (Vec ℕ Global) ℕ S
   placed-push e l h = (
     All-push (λ q. q < length (spelled new)) ps p (still-within (spelled old) (spelled new) far stay ps here.0) l,
     λ w.
-    let ns = map (spelled_at (spelled old)) ps in
-    looked-up h w
-    ∙ ap (λ o. cond (bytes_eq (vec_items key) w) (Some n) o) (here.1 w)
-    ∙ ap (λ m. cond (bytes_eq (vec_items key) w) (Some m) (place_of ns w)) (e ∙ sym (length-map ps (spelled_at (spelled old))))
-    ∙ sym (place_of-push ns (vec_items key) w)
-    ∙ ap (λ us. place_of us w) (sym names-push),
+        let ns = map (spelled_at (spelled old)) ps in
+        looked-up h w
+        ∙ ap (λ o. cond (bytes_eq (vec_items key) w) (Some n) o) (here.1 w)
+        ∙ ap (λ m. cond (bytes_eq (vec_items key) w) (Some m) (place_of ns w)) (e ∙ sym (length-map ps (spelled_at (spelled old))))
+        ∙ sym (place_of-push ns (vec_items key) w)
+        ∙ ap (λ us. place_of us w) (sym names-push),
   )

@@ -1,15 +1,13 @@
 -- Runs of letters and comments in a text, and its words. Assumes nothing.
-use Rattle.std.proofs.Common.{◌≡◌, ℕ, suc, ◌+◌, ◌-◌, ◌≤◌, true, false, not, cond, eqb, List, [], ◌∷◌, ◌++◌, map, length, take, drop, sym, refl, ap, ◌∙◌, subst, inl, inr, arith}
-use Rattle.std.proofs.lemmas.List.{append_assoc, append-nil, drop-drop, map_push, length-drop, length-take}
+use Rattle.std.proofs.Common.{◌≡◌, ℕ, suc, ◌+◌, ◌≤◌, true, false, not, cond, eqb, List, [], ◌∷◌, ◌++◌, length, take, drop, sym, refl, ap, ◌∙◌, inl, inr, arith}
+use Rattle.std.proofs.lemmas.List.{append_assoc, append-nil, length-take}
 use Rattle.std.proofs.lemmas.List.Sums.{take_while-cons}
 use Rattle.std.proofs.lemmas.Bool.{cases_Bool, false≢true}
-use Rattle.std.proofs.ByRecursion.{All-push}
-use Rattle.std.specs.List.{between, AllByRecursion, take_while}
-use Rattle.words.specs.declared.word.Word.{Word}
+use Rattle.std.specs.List.{take_while}
 use Rattle.words.specs.declared.word.Marks.{Marks}
 use Rattle.words.specs.declared.word.Kind.{Kind}
 use Rattle.words.specs.declared.word.Kind.TheVariants.{Newline, Blank, Comment, Mark, Letter}
-use Rattle.words.specs.Words.{Token, kind_of, is_letter, letters, rest_of_line, ended, by_kind, words_from, words_of, token_of, Inside, Cut}
+use Rattle.words.specs.Words.{Token, kind_of, is_letter, letters, rest_of_line, ended, by_kind, words_from}
 
 pub letter_is : (k : Kind) → is_letter k ≡ true → k ≡ Letter
 letter_is Newline e = absurd (false≢true e)

@@ -10,7 +10,7 @@ use Rattle.words.specs.declared.word.Kind.{Kind}
 use Rattle.words.specs.declared.word.Kind.TheVariants.{Newline, Blank, Comment, Mark, Letter}
 use Rattle.words.specs.Words.{Token, kind_of, is_letter, letters, rest_of_line, words_from, words_of, token_of, Inside, Cut}
 use Rattle.words.specs.WordsLeft.{is_first}
-use Rattle.words.proofs.Words.{letter_is, letters-taken, letters-take, letters-done, letters-yes, letters-short, at-newline, at-blank, at-comment, at_mark, word-begun, word-ended, ended_some, comment-ended, comment-long, rest-long}
+use Rattle.words.proofs.Words.{letters-taken, letters-take, letters-done, letters-yes, letters-short, at-newline, at-blank, at-comment, at_mark, word-begun, word-ended, ended_some, comment-ended, comment-long, rest-long}
 
 module _ (text rest : List ℕ) (long : length rest ≤ length text) (k : ℕ) (few : k ≤ length rest) where
   -- what is left after some bytes, and where it stands
@@ -121,8 +121,7 @@ module _ (m : Marks) (text : List ℕ) (line : ℕ) (rest : List ℕ) (long : le
     pub cut-inside : rest ≡ drop (length text - length rest) text → Inside text w
     cut-inside suffix =
         let at = length text - length rest in
-        let back : at + k - at ≡ k = omega arith in
-        (
+        let back : at + k - at ≡ k = omega arith in (
           omega (arith, long, c.few, size, starts),
           spelled ∙ ap (take k) suffix ∙ ap (λ n. take n (drop at text)) (sym back) ∙ ap (λ n. between at (at + n) text) (sym size) ∙ ap (λ p. between p (p + length w.bytes.now) text) (sym starts),
         )

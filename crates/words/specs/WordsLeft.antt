@@ -1,5 +1,5 @@
 -- The words that an iterator has left. Assumes nothing: these are definitions.
-use Rattle.std.specs.Prelude.{◌≡◌, ℕ, ◌-◌, false, List, [], length, Option, MatchOption, ◌∷◌, slice_index}
+use Rattle.std.specs.Prelude.{◌≡◌, ℕ, ◌-◌, false, List, [], length, Option, MatchOption, ◌∷◌}
 use Rattle.words.specs.Words.{Token, words_from, token_of, Inside, kind_of}
 use Rattle.words.specs.declared.word.Word.{Word}
 use Rattle.words.specs.declared.word.Kind.{Kind}

@@ -1,7 +1,7 @@
 -- proofs/left/Words/skip/Answers.antt
 -- What `skip` needs beyond what the search finds.
 use Rattle.std.proofs.Common.{◌∙◌, ap, length, arith}
-use Rattle.words.proofs.WordsLeft.{one-on, newline-on, blank-on, comment-suffix, comment-place, comment-on}
+use Rattle.words.proofs.WordsLeft.{one-on, newline-on, blank-on, comment-on}
 use Rattle.words.proofs.left.Words.skip.Goals as goal
 
 pub invariant_of-self : goal.invariant_of-self

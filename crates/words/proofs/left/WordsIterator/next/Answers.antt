@@ -1,9 +1,9 @@
 -- proofs/left/WordsIterator/next/Answers.antt
 -- Why `next` gives the first word that is left.
-use Rattle.std.proofs.Common.{◌≡◌, ℕ, ◌-◌, length, List, [], ◌∷◌, None, sym, refl, ap, ◌∙◌, subst, arith, rules}
+use Rattle.std.proofs.Common.{◌≡◌, ℕ, ◌-◌, length, List, None, sym, refl, ap, ◌∙◌, subst, arith, rules}
 use Rattle.words.specs.declared.word.Word.{Word}
 use Rattle.words.specs.Words.{is_letter, Inside}
-use Rattle.words.proofs.WordsLeft.{Begins, mark-begins, letters-begin, none-left, cut-suffix, cut-short, cut-inside, cut-words}
+use Rattle.words.proofs.WordsLeft.{Begins, mark-begins, letters-begin, none-left, cut-inside, cut-words}
 use Rattle.words.proofs.left.WordsIterator.next.Goals as goal
 use Rattle.words.proofs.left.WordsIterator.next.Goals.{then-is_letter, else-is_letter}
 

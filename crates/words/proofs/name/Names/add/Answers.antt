@@ -1,6 +1,6 @@
 -- proofs/name/Names/add/Answers.antt
 -- What `add` needs beyond what the search finds.
-use Rattle.std.proofs.Common.{◌≡◌, ◌<◌, ◌∷◌, ◌++◌, [], map, length, sym, ap, ◌∙◌, vec_items, subst, List, ℕ, arith, rules}
+use Rattle.std.proofs.Common.{◌<◌, ◌∷◌, ◌++◌, [], map, length, sym, ap, ◌∙◌, vec_items, subst, List, ℕ, arith, rules}
 use Rattle.std.proofs.lemmas.List.{length-map}
 use Rattle.indexmap.specs.IndexMap.{keys}
 use Rattle.words.specs.Places.{Placed, spelled, spelled_at}
