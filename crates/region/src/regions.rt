@@ -22,6 +22,14 @@ impl Clone for Region {
 }
 
 impl Region {
+    // The squares that bands in normal form cover.
+    pub fn of_bands(bands: Vec<Band>) -> Region
+        requires { Canonical bands.items }
+        ensures { result.bands.items ≡ bands.items }
+    {
+        Region { bands }
+    }
+
     pub fn bands(&self) -> &[Band]
         ensures { result.now ≡ self.now.bands.items }
     {

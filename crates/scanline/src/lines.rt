@@ -44,6 +44,14 @@ impl Line {
         Ok(Line { edges })
     }
 
+    // The set that begins and ends at strictly increasing edges.
+    pub fn of_edges(edges: Vec<u64>) -> Line
+        requires { Sorted edges.items }
+        ensures { result.edges.items ≡ edges.items }
+    {
+        Line { edges }
+    }
+
     pub fn edges(&self) -> &[u64]
         ensures { result.now ≡ self.now.edges.items }
     {

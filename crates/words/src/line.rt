@@ -1,5 +1,5 @@
 // The lines of a text.
-ghost use Rattle.std.specs.Prelude.{◌≡◌, ◌^◌, ◌<◌, not, length, ◌==◌};
+ghost use Rattle.std.specs.Prelude.{◌≡◌, ◌+◌, ◌^◌, ◌<◌, not, length, drop, ◌==◌};
 ghost use Rattle.std.specs.Iterator.{YieldsFirstRef, item_count};
 ghost use Rattle.std.specs.List.{take_while};
 ghost use Rattle.words.specs.Lines.{lines_of, last_line};
@@ -45,6 +45,16 @@ pub(crate) fn line_length(text: &[u8]) -> usize
     ensures { result ≡ length (take_while (λ b. not (b == 10)) text.now) }
 {
     text.iter().take_while(|byte| **byte != b'\n').count()
+}
+
+/// Where the line of a place ends: at its newline, or at the text's end.
+pub fn line_end(text: &[u8], from: usize) -> usize
+    ensures { result ≡ from + length (take_while (λ b. not (b == 10)) (drop from text.now)) }
+{
+    match text.get(from..) {
+        Some(rest) => from + line_length(rest),
+        None => from,
+    }
 }
 
 /// The number, from 0, of the last line: a newline at the very end begins no further line.
