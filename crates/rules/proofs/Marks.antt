@@ -2,15 +2,25 @@
 use Rattle.std.proofs.Common.{◌≡◌, ℕ, suc, ◌-◌, ◌<◌, ◌≤◌, Bool, true, false, ◌≢◌, List, length, get_or, set, sym, refl, ◌∙◌, subst, inl, inr, arith, length-set, get_or-set_other, get_or-set_same}
 use Rattle.std.proofs.ByRecursion.{All-weaker}
 use Rattle.std.proofs.lemmas.Bool.{cases_eq, cases_lt, false≢true}
+use Rattle.std.proofs.lemmas.List.Elements.{All-from_get_or}
+use Rattle.std.specs.List.{All}
+use Rattle.rules.specs.Numbers.{max_number}
 use Rattle.rules.specs.Tests.{terms_of}
 use Rattle.rules.specs.Values.{Over, among, Marked, Needed}
-use Rattle.rules.specs.Terms.{named}
+use Rattle.rules.specs.Terms.{named, number_in}
 use Rattle.rules.specs.Sound.{needs}
 use Rattle.rules.specs.declared.term.Term.{Term}
 use Rattle.rules.specs.declared.term.Term.TheVariants.{Layer}
 use Rattle.rules.specs.declared.rule.Rule.{Rule}
 use Rattle.rules.specs.declared.rule.Test.{Test}
 use Rattle.rules.specs.declared.rule.Test.TheVariants.{Wide, Apart, Inside, Never}
+
+-- the layers of the terms can be marked
+abbrev pub Markable : List Term → Type 0
+Markable ts = All (λ t. number_in t ≤ max_number) ts
+
+pub markable : (r : Rule) (ts : List Term) → ts ≡ terms_of r → Markable ts
+markable r ts e = rw e (All-from_get_or (λ t. number_in t ≤ max_number) (terms_of r) (Layer 0) (λ i l. (r.sound.names i l).0))
 
 -- one mark more
 pub set_here : (need : List Bool) (a : ℕ) → a < length need → among (set need a true) a ≡ true
