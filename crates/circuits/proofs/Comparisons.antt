@@ -115,9 +115,6 @@ unsound n xs h = elim (cases_Bool (circuit_ok n xs)) [ inl e ↦ absurd (h (ok_s
 pub ok_low : (n : ℕ) (xs : List ℕ) → circuit_ok n xs ≡ true → (k : ℕ) → k < length xs → get_or xs k 0 < n
 ok_low n xs e k l = let s = ok_sound n xs e in omega (arith, at_most_all (n - 1) xs s.low k l, s.some)
 
-pub ok_byte : (n : ℕ) (xs : List ℕ) → circuit_ok n xs ≡ true → (k : ℕ) → k < length xs → get_or xs k 0 ≤ 255
-ok_byte n xs e k l = omega (arith, ok_low n xs e k l, (ok_sound n xs e).nets)
-
 pub ok_netlist : (n : ℕ) (xs : List ℕ) → circuit_ok n xs ≡ true → Netlist n (devices_in xs)
 ok_netlist n xs e =
     let s = ok_sound n xs e in

@@ -6,15 +6,15 @@ ghost use Rattle.circuits.specs.Components.{On};
 /// The most devices that a circuit has.
 const MAX_DEVICES: usize = 256;
 
-/// The most nets that a circuit has, so that a net is a `u8`.
+/// The most nets that a circuit has, so that a table has an entry for each.
 const MAX_NETS: u64 = 256;
 
 /// A device, by its nets: the gate's, and those of its two ends.
 #[derive(Clone, Copy, PartialEq, Eq)]
 pub struct Device {
-    pub gate: u8,
-    pub one: u8,
-    pub other: u8,
+    pub gate: usize,
+    pub one: usize,
+    pub other: usize,
 }
 
 impl Device {
@@ -28,7 +28,7 @@ impl Device {
     }
 
     /// Whether the device is at a net.
-    pub fn is_at(self, net: u8) -> bool
+    pub fn is_at(self, net: usize) -> bool
         ensures { Decides result (On self net) }
     {
         (self.gate == net) | (self.one == net) | (self.other == net)
@@ -56,15 +56,14 @@ pub fn is_circuit(nets: u64, numbers: &[u64]) -> bool
 
 /// The device at a place of a circuit in numbers.
 fn read_device(numbers: &[u64], place: usize) -> Device
-    requires within { place < length numbers.now / 3 }
-    requires bytes { (k : ℕ) → k < length numbers.now → slice_index numbers.now k ≤ 255 }
+    requires { place < length numbers.now / 3 }
     ensures { result ≡ device_at (devices_in numbers.now) place }
 {
     let first = 3 * place;
     Device {
-        gate: numbers[first] as u8,
-        one: numbers[first + 1] as u8,
-        other: numbers[first + 2] as u8,
+        gate: numbers[first] as usize,
+        one: numbers[first + 1] as usize,
+        other: numbers[first + 2] as usize,
     }
 }
 
@@ -75,9 +74,8 @@ const NO_DEVICE: Device = Device {
     other: 0,
 };
 
-/// The devices of a circuit in numbers, small enough that the search goes over them fast.
+/// The devices of a circuit in numbers.
 pub fn read(numbers: &[u64]) -> [Device; 256]
-    requires { (k : ℕ) → k < length numbers.now → slice_index numbers.now k ≤ 255 }
     ensures { (i : ℕ) → i < 256 → slice_index_or result i none ≡ slice_index_or (devices_in numbers.now) i none }
 {
     let mut room = [NO_DEVICE; MAX_DEVICES];

@@ -3,7 +3,7 @@ use Rattle.std.proofs.Common.{◌≤◌, sym, refl, ◌∙◌, inl, inr, arith}
 use Rattle.std.proofs.lemmas.Bool.{le-leb, and_from}
 use Rattle.circuits.specs.Comparisons.{ComparisonSays}
 use Rattle.circuits.specs.Pairings.{Missing, Pairable}
-use Rattle.circuits.proofs.Comparisons.{as_given, ok_byte, ok_netlist, names-not, same_from, not_same}
+use Rattle.circuits.proofs.Comparisons.{as_given, ok_netlist, names-not, same_from, not_same}
 use Rattle.circuits.proofs.compare.Goals as goal
 
 pub returns-then-not-is_circuit : goal.returns-then-not-is_circuit
@@ -24,12 +24,6 @@ returns-then-named-min c =
       sym c.is_circuit-2.ensures ∙ c.if-not-is_circuit-2.false,
       names-not c.args.named c.args.nets_a c.args.nets_b (omega (arith, c.min.ensures)),
     )))
-
-pub read-room_a-requires : goal.read-room_a-requires
-read-room_a-requires c = ok_byte _ _ (sym c.is_circuit.ensures ∙ c.if-not-is_circuit.false)
-
-pub read-room_b-requires : goal.read-room_b-requires
-read-room_b-requires c = ok_byte _ _ (sym c.is_circuit-2.ensures ∙ c.if-not-is_circuit-2.false)
 
 pub returns-then-pairable : goal.returns-then-pairable
 unfolding ComparisonSays
