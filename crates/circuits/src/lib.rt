@@ -16,7 +16,7 @@ mod tally;
 use layout::refusal::Refusal;
 use netlist::{Circuit, is_circuit, read};
 use pairing::{Pairing, own_partners};
-use search::pairable;
+use search::pairable_from;
 
 /// What a comparison answers.
 #[derive(Clone, Copy, Debug, PartialEq, Eq)]
@@ -49,7 +49,7 @@ pub fn compare(
     let first = Circuit::new(nets_a, a, &room_a);
     let second = Circuit::new(nets_b, b, &room_b);
     let own = own_partners(named as usize);
-    if pairable(first, second, Pairing { to: own, back: own }) {
+    if pairable_from(first, second, Pairing { to: own, back: own }) {
         Ok(Comparison::Equal)
     } else {
         Ok(Comparison::Unequal)

@@ -18,13 +18,16 @@ pub struct Device {
 }
 
 impl Device {
-    /// The same gate and the same ends, in either order: with no branch, as most devices differ.
+    /// The same gate and the same ends, in either order. The gate first, as most gates differ.
     fn fits(self, device: Device) -> bool
         ensures { result ≡ fits self device }
     {
+        if self.gate != device.gate {
+            return false;
+        }
         let same = (self.one == device.one) & (self.other == device.other);
         let swapped = (self.one == device.other) & (self.other == device.one);
-        (self.gate == device.gate) & (same | swapped)
+        same | swapped
     }
 
     /// Whether the device is at a net.

@@ -2,7 +2,7 @@
 use circuits::component::{finished, open_net};
 use circuits::memo::Memo;
 use circuits::netlist::{Circuit, Device, count};
-use circuits::pairing::{Pairing, agree, complete, first_free, own_partners};
+use circuits::pairing::{Pairing, Partners, agree, complete, first_free, own_partners};
 use circuits::search::pairable;
 use circuits::{Comparison, compare};
 use layout::refusal::Refusal;
@@ -47,6 +47,24 @@ fn takes_more_nets_than_a_comparison_does(rt: HostRuntime) -> Result<(), Fail> {
 }
 
 #[test]
+fn pairs_nets_of_large_numbers(rt: HostRuntime) -> Result<(), Fail> {
+    let mut to = Vec::new(rt.alloc());
+    let mut back = Vec::new(rt.alloc());
+    for _ in 0..300 {
+        to.push(None)?;
+        back.push(None)?;
+    }
+    let mut pairing = Pairing { to, back };
+    if pairing.to.len() == 300 && pairing.back.len() == 300 {
+        pairing.pair(299, 256);
+    }
+    assert_eq!(rt; pairing.to.partner(299), Some(256));
+    assert_eq!(rt; pairing.back.partner(256), Some(299));
+    assert_eq!(rt; pairing.back.partner(299), None);
+    Ok(())
+}
+
+#[test]
 fn pairs_circuits_that_are_made_elsewhere(rt: HostRuntime) {
     let devices = [Device {
         gate: 0,
@@ -58,7 +76,7 @@ fn pairs_circuits_that_are_made_elsewhere(rt: HostRuntime) {
         devices: &devices,
     };
     let own = own_partners(1);
-    assert!(rt; pairable(circuit, circuit, Pairing { to: own, back: own }));
+    assert!(rt; pairable(circuit, circuit, &Pairing { to: own, back: own }));
 }
 
 #[test]

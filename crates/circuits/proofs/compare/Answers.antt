@@ -25,16 +25,16 @@ returns-then-named-min c =
       names-not c.args.named c.args.nets_a c.args.nets_b (omega (arith, c.min.ensures)),
     )))
 
-pub returns-then-pairable : goal.returns-then-pairable
+pub returns-then-pairable_from : goal.returns-then-pairable_from
 unfolding ComparisonSays
-returns-then-pairable c =
+returns-then-pairable_from c =
     let a = sym c.is_circuit.ensures ∙ c.if-not-is_circuit.false in
     let b = sym c.is_circuit-2.ensures ∙ c.if-not-is_circuit-2.false in
     let hm : c.args.named ≤ c.args.nets_a = omega (arith, c.min.ensures) in
     let hn : c.args.named ≤ c.args.nets_b = omega (arith, c.min.ensures) in
     let first = c.new-first.ensures in
     let second = c.new-second.ensures in
-    let found = as_given (λ m n as' bs. Pairable m n as' bs c.own_partners-own.result) _ _ _ _ first.nets second.nets first.devices second.devices c.if-pairable.ensures in
+    let found = as_given (λ m n as' bs. Pairable m n as' bs c.own_partners-own.result) _ _ _ _ first.nets second.nets first.devices second.devices c.if-pairable_from.ensures in
     inr (inr (inr (
       a,
       b,
@@ -42,16 +42,16 @@ returns-then-pairable c =
       inl (refl, same_from _ _ _ _ _ (ok_netlist _ _ a) (ok_netlist _ _ b) _ hm c.own_partners-own.ensures found),
     )))
 
-pub returns-else-pairable : goal.returns-else-pairable
+pub returns-else-pairable_from : goal.returns-else-pairable_from
 unfolding ComparisonSays
-returns-else-pairable c =
+returns-else-pairable_from c =
     let a = sym c.is_circuit.ensures ∙ c.if-not-is_circuit.false in
     let b = sym c.is_circuit-2.ensures ∙ c.if-not-is_circuit-2.false in
     let hm : c.args.named ≤ c.args.nets_a = omega (arith, c.min.ensures) in
     let hn : c.args.named ≤ c.args.nets_b = omega (arith, c.min.ensures) in
     let first = c.new-first.ensures in
     let second = c.new-second.ensures in
-    let found = as_given (λ m n as' bs. Missing m n as' bs c.own_partners-own.result) _ _ _ _ first.nets second.nets first.devices second.devices c.if-pairable.ensures in
+    let found = as_given (λ m n as' bs. Missing m n as' bs c.own_partners-own.result) _ _ _ _ first.nets second.nets first.devices second.devices c.if-pairable_from.ensures in
     inr (inr (inr (
       a,
       b,
