@@ -4,6 +4,7 @@ ghost use Rattle.std.specs.List.{take_while};
 ghost use Rattle.words.specs.Words.{is_mark, is_letter, kind_of, Cut};
 
 use crate::left::Words;
+pub use crate::line::line_end;
 use std::alloc::{AllocError, Global};
 
 /// A word: its bytes, the place of the first of them in the text, and its line, counted from 0.
