@@ -2,7 +2,7 @@
 use Rattle.std.proofs.Common.{◌≡◌, ℕ, zero, suc, ◌+◌, ◌-◌, ◌*◌, ◌/◌, ◌%◌, ◌<◌, ◌≤◌, min, true, false, cond, ◌&&◌, eqb, leb, ltb, List, [], ◌∷◌, length, get_or, take, sym, refl, ap, ap₂, ◌∙◌, subst, inl, inr, arith}
 use native.Mathlib.Numerals.{add-three}
 use Rattle.std.proofs.lemmas.Bool.{cases_Bool, cases_lt, eq-eqb, eqb-true, lt-ltb, le-ltb, le-leb, lt-leb, leb-true, and_parts, and_from}
-use Rattle.std.proofs.lemmas.List.{same_lists, length-take-le, get_or-take, get_or_default, take_all}
+use Rattle.std.proofs.lemmas.List.{same_lists, length-take-le, get_or-take, get_or_default, get_or_past, take_all}
 use Rattle.std.specs.List.{list_all, sum_by}
 use Rattle.circuits.specs.Circuits.{Same}
 use Rattle.circuits.specs.declared.netlist.Device.{Device}
@@ -115,6 +115,9 @@ unsound n xs h = elim (cases_Bool (circuit_ok n xs)) [ inl e ↦ absurd (h (ok_s
 pub ok_low : (n : ℕ) (xs : List ℕ) → circuit_ok n xs ≡ true → (k : ℕ) → k < length xs → get_or xs k 0 < n
 ok_low n xs e k l = let s = ok_sound n xs e in omega (arith, at_most_all (n - 1) xs s.low k l, s.some)
 
+pub ok_byte : (n : ℕ) (xs : List ℕ) → circuit_ok n xs ≡ true → (k : ℕ) → k < length xs → get_or xs k 0 ≤ 255
+ok_byte n xs e k l = omega (arith, ok_low n xs e k l, (ok_sound n xs e).nets)
+
 pub ok_netlist : (n : ℕ) (xs : List ℕ) → circuit_ok n xs ≡ true → Netlist n (devices_in xs)
 ok_netlist n xs e =
     let s = ok_sound n xs e in
@@ -129,6 +132,9 @@ ok_netlist n xs e =
 -- the device at a place, as it is read
 pub read-there : (xs : List ℕ) (i : ℕ) → 3 * i + 2 < length xs → three_at xs i ≡ get_or (devices_in xs) i none
 read-there xs i h = sym (devices-at xs i (omega arith))
+
+pub read-behind : (xs : List ℕ) (i : ℕ) → length xs ≤ 3 * i + 2 → none ≡ get_or (devices_in xs) i none
+read-behind xs i h = sym (get_or_past (devices_in xs) i none (omega (arith, devices-length xs)))
 
 -- a room whose front has been read
 pub room_is : (xs : List ℕ) (room : List Device) → length room ≡ 256 → length xs / 3 ≤ 256 → ((i : ℕ) → i < 256 → get_or room i none ≡ get_or (devices_in xs) i none) → take (length xs / 3) room ≡ devices_in xs

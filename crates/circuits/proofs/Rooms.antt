@@ -1,10 +1,10 @@
 -- A room into which the devices of a circuit are read, one after the other. Assumes nothing.
 use Rattle.std.proofs.Common.{◌≡◌, ℕ, ◌+◌, ◌/◌, ◌<◌, ◌≤◌, min, List, length, set, replicate, sym, ◌∙◌, inl, inr, arith, length-set, get_or-set_other, get_or-set_same, below_more}
 use Rattle.std.proofs.lemmas.Bool.{cases_lt}
-use Rattle.std.proofs.lemmas.List.{get_or_past, get_or-replicate, length-replicate}
+use Rattle.std.proofs.lemmas.List.{get_or-replicate, length-replicate}
 use Rattle.circuits.specs.declared.netlist.Device.{Device}
 use Rattle.circuits.specs.Netlists.{none, device_at, devices_in}
-use Rattle.circuits.proofs.Comparisons.{devices-length}
+use Rattle.circuits.proofs.Comparisons.{read-behind}
 
 -- the first n are read, and none behind them
 pub record Reading (xs : List ℕ) (room : List Device) (n : ℕ) : Type 0 where
@@ -31,5 +31,5 @@ reading_more xs room n t l g e = record {
 pub reading_all : (xs : List ℕ) (room : List Device) (n : ℕ) → Reading xs room n → min 256 (length xs / 3) ≤ n → (k : ℕ) → k < 256 → device_at room k ≡ device_at (devices_in xs) k
 reading_all xs room n g m k l = elim (cases_lt k n) [
   | inl h ↦ g.there k h
-  | inr h ↦ g.behind k h l ∙ sym (get_or_past (devices_in xs) k none (omega (arith, devices-length xs)))
+  | inr h ↦ g.behind k h l ∙ read-behind xs k (omega arith)
 ]
