@@ -7,7 +7,7 @@ use Rattle.std.specs.List.{list_all, sum_by}
 use Rattle.circuits.specs.Circuits.{Same}
 use Rattle.circuits.specs.declared.netlist.Device.{Device}
 use Rattle.circuits.specs.Laws.{BelowNets}
-use Rattle.circuits.specs.Netlists.{fits, has, Netlist, threes, all_at_most, devices_in, none, circuit_ok, Below}
+use Rattle.circuits.specs.Netlists.{fits, has, Netlist, threes, all_at_most, device_at, devices_in, none, circuit_ok, Below}
 use Rattle.circuits.specs.Pairings.{Partners, Has, at, Paired, Missing, Named, Pairable}
 use Rattle.std.specs.Option.{unwrap_or}
 use Rattle.circuits.proofs.Partners.{held}
@@ -52,6 +52,13 @@ devices-at (a ∷ []) i h = absurd (omega arith)
 devices-at (a ∷ (b ∷ [])) i h = absurd (omega arith)
 devices-at (a ∷ (b ∷ (c ∷ xs))) zero h = refl
 devices-at (a ∷ (b ∷ (c ∷ xs))) (suc i) h = devices-at xs i (omega arith) ∙ sym (device-three a b c xs i)
+
+-- nets lie below what all numbers lie below
+pub devices-low : (m : ℕ) (xs : List ℕ) → 0 < m → ((k : ℕ) → k < length xs → get_or xs k 0 < m) → (i : ℕ) → Below m (device_at (devices_in xs) i)
+devices-low m xs some low i = elim (cases_lt i (length xs / 3)) [
+  | inl l ↦ subst (Below m) (sym (devices-at xs i l)) (low (3 * i) (omega arith), low (3 * i + 1) (omega arith), low (3 * i + 2) (omega arith))
+  | inr h ↦ subst (Below m) (sym (get_or_past (devices_in xs) i none (omega (arith, devices-length xs)))) (some, some, some)
+]
 
 pub at_most_all : (m : ℕ) (xs : List ℕ) → all_at_most m xs ≡ true → (k : ℕ) → k < length xs → get_or xs k 0 ≤ m
 unfolding all_at_most
@@ -124,9 +131,7 @@ ok_netlist n xs e =
     record {
       some = s.nets;
       few = omega (arith, s.few, devices-length xs);
-      nets = λ i l.
-          let k : i < length xs / 3 = omega (arith, l, devices-length xs) in
-          subst (Below n) (sym (devices-at xs i k)) (ok_low n xs e (3 * i) (omega arith), ok_low n xs e (3 * i + 1) (omega arith), ok_low n xs e (3 * i + 2) (omega arith));
+      nets = λ i _. devices-low n xs s.some (ok_low n xs e) i;
     }
 
 -- the device at a place, as it is read

@@ -1,10 +1,10 @@
 -- What one turn of the merge of two lines keeps. Assumes nothing.
-use Rattle.std.proofs.Common.{◌≡◌, ℕ, suc, ◌+◌, ◌<◌, ◌≤◌, min, Bool, true, false, leb, List, [], ◌∷◌, ◌++◌, length, Some, None, Option, sym, refl, ap, ◌∙◌, subst, ⊎_elim, arith}
+use Rattle.std.proofs.Common.{◌≡◌, ℕ, suc, ◌+◌, ◌<◌, ◌≤◌, min, Bool, true, false, not, eqb, leb, List, [], ◌∷◌, ◌++◌, length, Some, None, Option, sym, refl, ap, ◌∙◌, subst, ⊎_elim, arith}
 use Rattle.std.proofs.lemmas.Bool.{cases_lt, cases_eq, eq-eqb, ne_eqb, le-leb, lt-leb, leb-true, and_parts, and_from}
 use Rattle.scanline.specs.declared.Op.{Op}
 use Rattle.scanline.specs.declared.Op.TheVariants.{And, Or, Without, Xor}
 use Rattle.scanline.specs.Lines.{differ, inside, rises, Sorted, applied, Combined}
-use Rattle.scanline.specs.Starts.{first_start, begins, past as past_of}
+use Rattle.scanline.specs.Starts.{first_start, begins, starting, past as past_of}
 
 -- the first edge of either line
 abbrev pub first : List ℕ → List ℕ → Option ℕ
@@ -16,6 +16,11 @@ turns = begins (λ e. e)
 
 abbrev pub past : ℕ → List ℕ → List ℕ
 past = past_of (λ e. e)
+
+-- it turns where what is cut off at e is not empty
+pub turns_here : (e : ℕ) (es here : List ℕ) (b : Bool) → here ≡ starting (λ f. f) e es → b ≡ eqb (length here) 0 → not b ≡ turns e es
+turns_here e [] here b h k = ap not (k ∙ ap (λ u. eqb (length u) 0) h)
+turns_here e (f ∷ fs) here b h k = ⊎_elim (λ s. ap not (k ∙ ap (λ u. eqb (length u) 0) h) ∙ rw (eq-eqb f e s)) (λ n. ap not (k ∙ ap (λ u. eqb (length u) 0) h) ∙ rw (ne_eqb f e n)) (cases_eq f e)
 
 -- differ
 
