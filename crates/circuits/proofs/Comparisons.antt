@@ -53,11 +53,18 @@ devices-at (a ∷ (b ∷ [])) i h = absurd (omega arith)
 devices-at (a ∷ (b ∷ (c ∷ xs))) zero h = refl
 devices-at (a ∷ (b ∷ (c ∷ xs))) (suc i) h = devices-at xs i (omega arith) ∙ sym (device-three a b c xs i)
 
+-- the device at a place, as it is read
+pub read-there : (xs : List ℕ) (i : ℕ) → 3 * i + 2 < length xs → three_at xs i ≡ get_or (devices_in xs) i none
+read-there xs i h = sym (devices-at xs i (omega arith))
+
+pub read-behind : (xs : List ℕ) (i : ℕ) → length xs ≤ 3 * i + 2 → none ≡ get_or (devices_in xs) i none
+read-behind xs i h = sym (get_or_past (devices_in xs) i none (omega (arith, devices-length xs)))
+
 -- nets lie below what all numbers lie below
 pub devices-low : (m : ℕ) (xs : List ℕ) → 0 < m → ((k : ℕ) → k < length xs → get_or xs k 0 < m) → (i : ℕ) → Below m (device_at (devices_in xs) i)
 devices-low m xs some low i = elim (cases_lt i (length xs / 3)) [
-  | inl l ↦ subst (Below m) (sym (devices-at xs i l)) (low (3 * i) (omega arith), low (3 * i + 1) (omega arith), low (3 * i + 2) (omega arith))
-  | inr h ↦ subst (Below m) (sym (get_or_past (devices_in xs) i none (omega (arith, devices-length xs)))) (some, some, some)
+  | inl l ↦ subst (Below m) (read-there xs i (omega arith)) (low (3 * i) (omega arith), low (3 * i + 1) (omega arith), low (3 * i + 2) (omega arith))
+  | inr h ↦ subst (Below m) (read-behind xs i (omega arith)) (some, some, some)
 ]
 
 pub at_most_all : (m : ℕ) (xs : List ℕ) → all_at_most m xs ≡ true → (k : ℕ) → k < length xs → get_or xs k 0 ≤ m
@@ -133,13 +140,6 @@ ok_netlist n xs e =
       few = omega (arith, s.few, devices-length xs);
       nets = λ i _. devices-low n xs s.some (ok_low n xs e) i;
     }
-
--- the device at a place, as it is read
-pub read-there : (xs : List ℕ) (i : ℕ) → 3 * i + 2 < length xs → three_at xs i ≡ get_or (devices_in xs) i none
-read-there xs i h = sym (devices-at xs i (omega arith))
-
-pub read-behind : (xs : List ℕ) (i : ℕ) → length xs ≤ 3 * i + 2 → none ≡ get_or (devices_in xs) i none
-read-behind xs i h = sym (get_or_past (devices_in xs) i none (omega (arith, devices-length xs)))
 
 -- a room whose front has been read
 pub room_is : (xs : List ℕ) (room : List Device) → length room ≡ 256 → length xs / 3 ≤ 256 → ((i : ℕ) → i < 256 → get_or room i none ≡ get_or (devices_in xs) i none) → take (length xs / 3) room ≡ devices_in xs
